@@ -4,6 +4,7 @@ ghost use Rattle.std.specs.Prelude.{◌≡◌, ◌<◌, ◌≤◌, ◌^◌, IfSo
 ghost use Rattle.replay_run.specs.trace_code.Encoding.{Encodes, HasEncoding};
 ghost use Rattle.run_reference.specs.run_model.Building.{PortsAreNets};
 ghost use Rattle.run_reference.specs.run_model.MapOf.{IsMapOf};
+ghost use Rattle.run_reference.specs.trace_model.declared.packet.TheConstants.{MOST_CYCLES};
 
 use crate::traces::trace_of;
 use crate::watched::Watched;
@@ -219,9 +220,10 @@ fn has_contents(channels: &[Channel], packet: &Packet, row: &Row) -> bool {
     same && recorded.is_empty()
 }
 
-/// Whether a packet is a row's.
+/// Whether a packet is a row's, with no gap.
 fn is_packet_of(channels: &[Channel], packet: &Packet, row: &Row) -> bool {
-    packet.starts == row.starts && packet.ends == row.ends && has_contents(channels, packet, row)
+    let events = packet.starts == row.starts && packet.ends == row.ends;
+    packet.gap == 0 && !packet.reset && events && has_contents(channels, packet, row)
 }
 
 /// Whether a trace is of these rows: one packet for each row with an event.
@@ -280,7 +282,7 @@ fn answer_of<S: ReplayShell>(
     requires mapped { S.map shell.old ≡ map.now }
     requires channels { map.now.channels ≡ trace.now.channels }
     requires trace { Encodes trace.now bytes.now }
-    requires few { cycles ≤ 50000 }
+    requires few { cycles ≤ MOST_CYCLES }
 {
     let mut shell = Watched::new(shell, rows);
     let answer = replay(alloc, &mut shell, map, bytes, cycles).ok()?;
@@ -304,7 +306,7 @@ fn answer_on(
     requires mapped { IsMapOf sim.design map.now }
     requires channels { map.now.channels ≡ trace.now.channels }
     requires trace { Encodes trace.now bytes.now }
-    requires few { cycles ≤ 50000 }
+    requires few { cycles ≤ MOST_CYCLES }
 {
     let Ok(mut shell) = ReplayMachines::new(alloc, sim, map) else {
         return None;
@@ -322,7 +324,7 @@ fn answer_from(
     rows: &[Row],
 ) -> Option<Seen>
     requires trace { Encodes trace.now bytes.now }
-    requires few { cycles ≤ 50000 }
+    requires few { cycles ≤ MOST_CYCLES }
 {
     let Stage { sim, map } = sample_stage(alloc, sample, &trace.channels)?;
     answer_on(alloc, sim, &map, trace, bytes, cycles, rows)
@@ -338,7 +340,7 @@ fn answer_with(
     rows: &[Row],
 ) -> Option<Seen>
     requires trace { Encodes trace.now bytes.now }
-    requires few { cycles ≤ 50000 }
+    requires few { cycles ≤ MOST_CYCLES }
     requires rows { length rows.now < 2 ^ 32 }
 {
     let mut seen = answer_from(alloc, sample, trace, bytes, cycles, rows)?;
@@ -355,7 +357,7 @@ fn answer_in(
     cycles: u32,
 ) -> Option<Seen>
     requires trace { Encodes trace.now bytes.now }
-    requires few { cycles ≤ 50000 }
+    requires few { cycles ≤ MOST_CYCLES }
 {
     let rows = rows_of(alloc, sample, trace, cycles)?;
     answer_with(alloc, sample, trace, bytes, cycles, rows.as_slice())
@@ -363,7 +365,7 @@ fn answer_in(
 
 /// The same of a trace's bytes. `None` where they are no trace of the design's channels, or there isn't enough memory.
 pub(crate) fn see_replay(alloc: Global, sample: Sample, bytes: &[u8], cycles: u32) -> Option<Seen>
-    requires { cycles ≤ 50000 }
+    requires { cycles ≤ MOST_CYCLES }
 {
     let trace = decoded(alloc, bytes)?;
     answer_in(alloc, sample, &trace, bytes, cycles)

@@ -12,9 +12,9 @@ use run_reference::{held, waits};
 use sample_designs::{Sample, is_row};
 use std::alloc::Global;
 
-/// Whether an event is this one.
+/// Whether an event is this one, before any reset.
 fn is_event(event: Event, channel: usize, kind: Kind, index: u32) -> bool {
-    event.channel == channel && event.kind == kind && event.index == index
+    event.channel == channel && event.kind == kind && event.index == index && event.epoch == 0
 }
 
 /// Whether one event alone is waited for, the first start of `b`.

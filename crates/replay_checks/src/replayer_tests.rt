@@ -5,6 +5,7 @@ ghost use Rattle.run_reference.specs.run_model.Building.{PortsAreNets};
 ghost use Rattle.run_reference.specs.run_model.MapOf.{IsMapOf};
 ghost use Rattle.replay_run.specs.chan_replayer.Feed.{IsFeedOver};
 ghost use Rattle.sample_designs.specs.Stage.{stage_channels};
+ghost use Rattle.run_reference.specs.trace_model.declared.packet.TheConstants.{MOST_CYCLES};
 
 use crate::agreeing::{rows_of, trace_with};
 use crate::traces::{LAST_END_MISSING, THREE};
@@ -56,7 +57,7 @@ fn cycle<S: ReplayShell>(alloc: Global, shell: &mut S, map: &Map, feed: &Feed) -
     requires stage { map.now.channels ≡ stage_channels }
     requires map { S.map shell.old ≡ map.now }
     requires feed { IsFeedOver stage_channels feed.now }
-    requires few { S.cycles shell.old < 50000 }
+    requires few { S.cycles shell.old < MOST_CYCLES }
     ensures map { S.map shell.new ≡ S.map shell.old }
     ensures cycles { S.cycles shell.new ≤ S.cycles shell.old + 1 }
 {
@@ -70,7 +71,7 @@ fn cycle<S: ReplayShell>(alloc: Global, shell: &mut S, map: &Map, feed: &Feed) -
 fn go_on<S: ReplayShell>(alloc: Global, shell: &mut S, map: &Map, step: Step) -> Result<(), Memory>
     requires stage { map.now.channels ≡ stage_channels }
     requires map { S.map shell.old ≡ map.now }
-    requires few { S.cycles shell.old < 50000 }
+    requires few { S.cycles shell.old < MOST_CYCLES }
     ensures map { S.map shell.new ≡ S.map shell.old }
     ensures cycles { S.cycles shell.new ≤ S.cycles shell.old + 1 }
 {
@@ -101,7 +102,7 @@ fn go_through<S: ReplayShell>(
 ) -> Result<(), Memory>
     requires stage { map.now.channels ≡ stage_channels }
     requires map { S.map shell.old ≡ map.now }
-    requires few { S.cycles shell.old + length steps.now ≤ 50000 }
+    requires few { S.cycles shell.old + length steps.now ≤ MOST_CYCLES }
 {
     for one in steps {
         go_on(alloc, shell, map, *one)?;
@@ -119,7 +120,7 @@ fn gives<S: ReplayShell>(
 ) -> Option<bool>
     requires stage { map.now.channels ≡ stage_channels }
     requires map { S.map shell.old ≡ map.now }
-    requires few { S.cycles shell.old + length steps.now ≤ 50000 }
+    requires few { S.cycles shell.old + length steps.now ≤ MOST_CYCLES }
 {
     let mut shell = Watched::new(shell, rows);
     go_through(alloc, &mut shell, map, steps).ok()?;
@@ -131,7 +132,7 @@ fn gives_on(alloc: Global, sim: Sim, map: &Map, rows: &[Row], steps: &[Step]) ->
     requires nets { PortsAreNets sim.design }
     requires mapped { IsMapOf sim.design map.now }
     requires stage { map.now.channels ≡ stage_channels }
-    requires few { length steps.now ≤ 50000 }
+    requires few { length steps.now ≤ MOST_CYCLES }
 {
     let Ok(mut shell) = ReplayMachines::new(alloc, sim, map) else {
         return None;
@@ -141,7 +142,7 @@ fn gives_on(alloc: Global, sim: Sim, map: &Map, rows: &[Row], steps: &[Step]) ->
 
 /// The same round a design.
 fn gives_from(alloc: Global, sample: Sample, rows: &[Row], steps: &[Step]) -> Option<bool>
-    requires { length steps.now ≤ 50000 }
+    requires { length steps.now ≤ MOST_CYCLES }
 {
     let Stage { sim, map } = two_channel_stage(alloc, sample)?;
     gives_on(alloc, sim, &map, rows, steps)
@@ -155,7 +156,7 @@ fn replays(
     cycles: u32,
     steps: &[Step],
 ) -> Option<bool>
-    requires { length steps.now ≤ 50000 }
+    requires { length steps.now ≤ MOST_CYCLES }
 {
     let trace = trace_with(alloc, sample, packets)?;
     let rows = rows_of(alloc, sample, &trace, cycles)?;

@@ -1,6 +1,7 @@
 //! Replays of longer traces, against the definitions' rows.
 
 ghost use Rattle.std.specs.Prelude.{◌≤◌};
+ghost use Rattle.run_reference.specs.trace_model.declared.packet.TheConstants.{MOST_CYCLES};
 
 use crate::agreeing::{Seen, see_replay};
 use crate::traces::{drawn_trace, rounds};
@@ -18,7 +19,7 @@ fn has_ended(seen: &Seen, after: u32) -> bool {
 
 /// Whether a replay of these bytes has ended after 240 cycles, with these bytes as its trace.
 fn is_ended_with(alloc: Global, bytes: &[u8], out: &[u8], cycles: u32) -> Option<bool>
-    requires { cycles ≤ 50000 }
+    requires { cycles ≤ MOST_CYCLES }
 {
     let seen = see_replay(alloc, Sample::Regs, bytes, cycles)?;
     Some(has_ended(&seen, 240) && seen.answer.out.as_slice() == out)
@@ -26,7 +27,7 @@ fn is_ended_with(alloc: Global, bytes: &[u8], out: &[u8], cycles: u32) -> Option
 
 /// The same of the recording with stalls, with the trace without them.
 fn plays_rounds(alloc: Global, cycles: u32) -> Option<bool>
-    requires { cycles ≤ 50000 }
+    requires { cycles ≤ MOST_CYCLES }
 {
     let bytes = rounds(alloc, true)?;
     let out = rounds(alloc, false)?;

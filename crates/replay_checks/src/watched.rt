@@ -9,7 +9,7 @@ use run_reference::trace_model::Row;
 pub(crate) fn are_same(a: &Row, b: &Row) -> bool {
     let masks = a.gates == b.gates && a.valids == b.valids && a.readies == b.readies;
     let events = a.starts == b.starts && a.ends == b.ends;
-    masks && events && a.contents.as_slice() == b.contents.as_slice()
+    a.fresh == b.fresh && masks && events && a.contents.as_slice() == b.contents.as_slice()
 }
 
 /// Whether a row is the one at this place.

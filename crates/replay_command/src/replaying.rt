@@ -9,7 +9,7 @@ ghost use Rattle.net_design.specs.Lawful.{IsLawful};
 ghost use Rattle.run_commands.specs.net_order.Order.{IsOrder};
 ghost use Rattle.replay_run.specs.run_model.MapOf.{IsMapOf};
 ghost use Rattle.replay_run.specs.Replaying.{EndsAs};
-ghost use Rattle.run_commands.specs.script_text.declared.script.TheConstants.{MOST_CYCLES};
+ghost use Rattle.replay_run.specs.trace_model.declared.packet.TheConstants.{MOST_CYCLES};
 ghost use Rattle.trace_commands.specs.vidi_io.Cause.{Rose};
 ghost use Rattle.trace_commands.specs.vidi_io.Shelf.{Later};
 ghost use Rattle.trace_commands.specs.vidi_bench.AnswerText.{text_of};

@@ -4,7 +4,7 @@ use Rattle.std.specs.List.{flat_map}
 use Rattle.run_model.specs.trace_model.declared.channel.Channel.{Channel}
 use Rattle.run_model.specs.trace_model.declared.event.Event.{Event}
 use Rattle.run_model.specs.trace_model.declared.event.Kind.{Kind}
-use Rattle.run_model.specs.trace_model.declared.event.Kind.TheVariants.{Start, End}
+use Rattle.run_model.specs.trace_model.declared.event.Kind.TheVariants.{Start, End, Reset}
 use Rattle.run_model.specs.declared.held.Await.{Await}
 use Rattle.run_model.specs.declared.held.Held.{Held}
 use Rattle.report_text.specs.Report.{name_of}
@@ -13,6 +13,7 @@ use Rattle.report_text.specs.Text.{newline}
 abbrev pub kind_text : Kind → List ℕ
 kind_text Start = codes " start "
 kind_text End = codes " end "
+kind_text Reset = codes " reset "
 
 -- `CH start J` or `CH end J`
 abbrev pub event_line : List Channel → Event → List ℕ

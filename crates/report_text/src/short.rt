@@ -105,5 +105,6 @@ fn kind_text(kind: Kind) -> &'static [u8]
     match kind {
         Kind::Start => b" start ",
         Kind::End => b" end ",
+        Kind::Reset => b" reset ",
     }
 }

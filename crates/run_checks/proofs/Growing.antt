@@ -1,5 +1,5 @@
 -- A run of a shell, one row longer.
-use Rattle.std.proofs.Common.{◌≡◌, ℕ, List, [], ◌∷◌, ◌++◌, Option, Some, length, sym, subst}
+use Rattle.std.proofs.Common.{◌≡◌, ℕ, false, List, [], ◌∷◌, ◌++◌, Option, Some, length, sym, subst}
 use Rattle.run_reference.proofs.trace_model_lemmas.RowLemmas.{before-last}
 use Rattle.run_reference.specs.trace_model.declared.row.Offers.{Offers}
 use Rattle.run_reference.specs.trace_model.declared.row.Row.{Row}
@@ -18,14 +18,14 @@ pub turned : (runs : Design → Values → Option Row → Type 0) (d : Design) (
     (rows new : List Row) (now : Values) (offer : Offers) (g : ℕ) (row : Row) → at ≡ m
     → Grown d m (IsRunRow m.channels (offers_by offers) (GatesOf (gates_by gates))) rows now
     → IsTurn runs d at now (row_before rows (length rows)) (Some row) offer row
-    → offer ≡ offers_by offers rows → g ≡ gates_by gates rows → row.gates ≡ g → new ≡ rows ++ row ∷ []
+    → offer ≡ offers_by offers rows → g ≡ gates_by gates rows → row.gates ≡ g → row.fresh ≡ false → new ≡ rows ++ row ∷ []
     → (next : Values) × Grown d m (IsRunRow m.channels (offers_by offers) (GatesOf (gates_by gates))) new next
     × runs d next (row_before new (length new))
-turned runs d m at offers gates rows new now offer g row same grown turn o k gates-are e =
+turned runs d m at offers gates rows new now offer g row same grown turn o k gates-are unmarked e =
     let t : IsTurn runs d m now (row_before rows (length rows)) (Some row) offer row =
     subst (λ (n : Map). IsTurn runs d n now (row_before rows (length rows)) (Some row) offer row) same turn in
     let more = run-grow d m offers gates rows now grown offer g row t.after o k
-    (record { over = t.over; marked = t.marked; carried = t.carries; step = t.step }) gates-are in (
+    (record { over = t.over; marked = t.marked; carried = t.carries; step = t.step }) gates-are unmarked in (
       t.after,
       subst (λ (rs : List Row). Grown d m (IsRunRow m.channels (offers_by offers) (GatesOf (gates_by gates))) rs t.after) (sym e) more,
       subst (λ (rs : List Row). runs d t.after (row_before rs (length rs))) (sym e)

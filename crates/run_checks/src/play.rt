@@ -1,6 +1,6 @@
 //! Runs of a shell, cycle by cycle.
 
-ghost use Rattle.std.specs.Prelude.{◌≡◌, ◌<◌, ◌^◌, Option, All, length, IfOk};
+ghost use Rattle.std.specs.Prelude.{◌≡◌, ◌<◌, ◌^◌, false, Option, All, length, IfOk};
 ghost use Rattle.run_reference.specs.run_model.Offers.{AreZeroWhileDown};
 ghost use Rattle.run_reference.specs.trace_model.declared.row.Row.{Row as OneRow};
 ghost use Rattle.run_reference.specs.trace_model.Row.{AreOffers};
@@ -31,6 +31,7 @@ pub(crate) fn cycle<S: Shell>(
     ensures turn { IfOk result (λ row. (d : Design) (s : Values) (before : Option OneRow) → S.runs shell.old d s before
         → IsTurn (S.runs shell.new) d (S.map shell.old) s before (Some row) offers.now row) }
     ensures gates { IfOk result (λ row. row.gates ≡ gates) }
+    ensures fresh { IfOk result (λ row. row.fresh ≡ false) }
     ensures map { S.map shell.new ≡ S.map shell.old }
 {
     let mut row = row_over(alloc, channels)?;

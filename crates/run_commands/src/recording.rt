@@ -1,17 +1,17 @@
 //! The command `record`.
 
 ghost use Rattle.run_commands.specs.declared.line.TheConstants.{LINE_BYTES};
-ghost use Rattle.std.specs.Prelude.{◌≡◌, ◌≤◌, [], Option, Ok, IfOk, IfErr, length};
+ghost use Rattle.std.specs.Prelude.{◌≡◌, ◌≤◌, [], false, Option, Ok, IfOk, IfErr, length};
 ghost use Rattle.bench_run.specs.trace_model.declared.row.Row.{Row as OneRow};
 ghost use Rattle.bench_run.specs.trace_model.Channel.{IsTable};
 ghost use Rattle.net_design.specs.declared.values.Values.{Values};
 ghost use Rattle.net_design.specs.Lawful.{IsLawful};
 ghost use Rattle.net_sim.specs.net_order.Order.{IsOrder};
 ghost use Rattle.bench_run.specs.run_model.MapOf.{IsMapOf};
-ghost use Rattle.bench_run.specs.script_text.declared.script.TheConstants.{MOST_CYCLES};
+ghost use Rattle.bench_run.specs.trace_model.declared.packet.TheConstants.{MOST_CYCLES};
 ghost use Rattle.bench_run.specs.script_text.Fits.{FitsChannels};
 ghost use Rattle.bench_run.specs.script_text.ScriptOffer.{script_offer};
-ghost use Rattle.vidi_recorder.specs.room_ledger.Ledger.{fresh};
+ghost use Rattle.vidi_recorder.specs.room_ledger.Ledger.{empty};
 ghost use Rattle.vidi_recorder.specs.room_ledger.Reservation.{need};
 ghost use Rattle.bench_run.specs.script_text.Reasons.{read_lines};
 ghost use Rattle.bench_run.specs.script_text.Stalls.{ReadsStalls};
@@ -86,7 +86,7 @@ fn plan_recording<S: Shelf>(
 ) -> Result<Planned, Ended>
     ensures planned { IfOk result (λ p. IsPlanned design.now map.now script.now stalls.now (S.files shelf.old) p.bench p.plan) }
     ensures playable { IfOk result (λ p. IsPlayable p.bench) }
-    ensures room { IfOk result (λ p. p.room ≡ fresh (sizes_of p.bench.device.map.channels) p.plan.capacity) }
+    ensures room { IfOk result (λ p. p.room ≡ empty (sizes_of p.bench.device.map.channels) false p.plan.capacity) }
     ensures refused { IfErr result (EndsWith (IsUnrecorded design.now map.now script.now stalls.now (S.files shelf.old)
         (λ name. Rose (S.read_faults shelf.old name) (S.read_faults shelf.new name)))) }
     ensures files { S.files shelf.new ≡ S.files shelf.old }
@@ -106,7 +106,7 @@ pub fn plan_texts(alloc: Global, texts: &Texts, stalls: &[u8]) -> Result<Planned
     ensures planned { IfOk result (λ p. ReadsStalls (read_lines stalls.now) (Ok p.plan)) }
     ensures holds { IfOk result (λ p. need (sizes_of p.bench.device.map.channels) ≤ p.plan.capacity) }
     ensures playable { IfOk result (λ p. IsPlayable p.bench) }
-    ensures room { IfOk result (λ p. p.room ≡ fresh (sizes_of p.bench.device.map.channels) p.plan.capacity) }
+    ensures room { IfOk result (λ p. p.room ≡ empty (sizes_of p.bench.device.map.channels) false p.plan.capacity) }
     ensures refused { IfErr result (EndsWith (RefusedPlanned texts.now.design texts.now.map texts.now.script stalls.now)) }
 {
     let bench = bench_of(alloc, texts)?;
@@ -121,7 +121,7 @@ fn store_of(alloc: Global, channels: &Channels, stalls: &[u8]) -> Result<(Stalls
     requires stalls { length stalls.now ≤ text_limit }
     ensures planned { IfOk result (λ s. ReadsStalls (read_lines stalls.now) (Ok s.0)) }
     ensures holds { IfOk result (λ s. need (sizes_of channels.now) ≤ s.0.capacity) }
-    ensures room { IfOk result (λ s. s.1 ≡ fresh (sizes_of channels.now) s.0.capacity) }
+    ensures room { IfOk result (λ s. s.1 ≡ empty (sizes_of channels.now) false s.0.capacity) }
     ensures refused { IfErr result (EndsWith (RefusedStore stalls.now channels.now)) }
 {
     let plan = plan_of(alloc, stalls)?;
@@ -149,11 +149,11 @@ fn plan_of(alloc: Global, text: &[u8]) -> Result<Stalls, Ended>
 /// The store of a plan for these channels.
 fn room_for(alloc: Global, channels: &Channels, plan: &Stalls) -> Result<Room, Ended>
     requires { IsTable channels.now }
-    ensures room { IfOk result (λ room. room ≡ fresh (sizes_of channels.now) plan.now.capacity) }
+    ensures room { IfOk result (λ room. room ≡ empty (sizes_of channels.now) false plan.now.capacity) }
     ensures holds { IfOk result (λ room. need (sizes_of channels.now) ≤ plan.now.capacity) }
     ensures refused { IfErr result (EndsWith (IsTooSmall channels.now plan.now)) }
 {
-    match Room::new(alloc, channels, plan.capacity()) {
+    match Room::new(alloc, channels, false, plan.capacity()) {
         Ok(room) => Ok(room),
         Err(RoomError::TooSmall { need, given }) => Err(Ended::Refused(refused(
             alloc,
@@ -175,7 +175,7 @@ fn recorded<S: Shelf>(
     shelf: &mut S,
 ) -> Result<Answer, Ended>
     requires playable { IsPlayable planned.bench }
-    requires room { planned.room ≡ fresh (sizes_of planned.bench.device.map.channels) planned.plan.capacity }
+    requires room { planned.room ≡ empty (sizes_of planned.bench.device.map.channels) false planned.plan.capacity }
     ensures done { IfOk result (λ a. RecordsRun (course_of planned.bench planned.plan) trace.now (S.files shelf.old) a.status
         (text_of a.text) (S.files shelf.new)) }
     ensures stopped { IfErr result (IsStopped (IsCutShort (course_of planned.bench planned.plan) (S.files shelf.old) trace.now
@@ -195,7 +195,7 @@ fn recorded_with<S: Shelf>(
     shelf: &mut S,
 ) -> Result<Answer, Ended>
     requires playable { IsPlayable planned.bench }
-    requires room { planned.room ≡ fresh (sizes_of planned.bench.device.map.channels) planned.plan.capacity }
+    requires room { planned.room ≡ empty (sizes_of planned.bench.device.map.channels) false planned.plan.capacity }
     requires empty { shown line ≡ [] }
     requires line { left line ≡ LINE_BYTES }
     ensures done { IfOk result (λ a. RecordsRun (course_of planned.bench planned.plan) trace.now (S.files shelf.old) a.status
@@ -232,7 +232,7 @@ pub fn record_sim<S: Shelf>(
     requires order { IsOrder design order.drivers }
     requires mapped { IsMapOf design map.now }
     requires fits { FitsChannels map.now.channels script.now }
-    requires room { room ≡ fresh (sizes_of map.now.channels) plan.now.capacity }
+    requires room { room ≡ empty (sizes_of map.now.channels) false plan.now.capacity }
     ensures ended { IfOk result (FileEnds (course design map.now (script_offer script.now) plan.now script.now.cycles)
         (S.files shelf.old) trace.now (S.files shelf.new)) }
     ensures failed { IfErr result (FileFails (course design map.now (script_offer script.now) plan.now script.now.cycles)
@@ -259,7 +259,7 @@ fn record_block<B: Block + Drop, S: Shelf>(
     requires lawful { IsLawful (B.design block) }
     requires mapped { IsMapOf (B.design block) map.now }
     requires fits { FitsChannels map.now.channels script.now }
-    requires room { room ≡ fresh (sizes_of map.now.channels) plan.now.capacity }
+    requires room { room ≡ empty (sizes_of map.now.channels) false plan.now.capacity }
     ensures ended { IfOk result (FileEnds (course (B.design block) map.now (script_offer script.now) plan.now script.now.cycles)
         (S.files shelf.old) trace.now (S.files shelf.new)) }
     ensures failed { IfErr result (FileFails (course (B.design block) map.now (script_offer script.now) plan.now script.now.cycles)
@@ -298,7 +298,7 @@ fn record_file<S: Shell, E: Env, F: Shelf>(
     requires mapped { S.map shell.old ≡ map.now }
     requires channels { E.channels env.old ≡ map.now.channels }
     requires first { E.stands_for env.old [] }
-    requires room { room ≡ fresh (sizes_of map.now.channels) plan.now.capacity }
+    requires room { room ≡ empty (sizes_of map.now.channels) false plan.now.capacity }
     requires some { 1 ≤ cycles }
     requires few { cycles ≤ MOST_CYCLES }
     ensures ended { IfOk result (λ outcome. (d : Design) (s : Values) (before : Option OneRow) → S.runs shell.old d s before

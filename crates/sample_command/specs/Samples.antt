@@ -6,7 +6,7 @@ use Rattle.sample_gen.specs.trace_model.Recording.{trace_of}
 use Rattle.replay_command.specs.trace_code.Encoding.{Encodes, encode}
 use Rattle.replay_command.specs.trace_compare.Findings.{findings}
 use Rattle.sample_gen.specs.room_ledger.Reservation.{need}
-use Rattle.sample_gen.specs.script_text.declared.script.TheConstants.{MOST_CYCLES}
+use Rattle.sample_gen.specs.trace_model.declared.packet.TheConstants.{MOST_CYCLES}
 use Rattle.sample_gen.specs.script_text.declared.stalls.Stalls.{Stalls}
 use Rattle.sample_gen.specs.script_text.Reasons.{read_lines}
 use Rattle.sample_gen.specs.script_text.Stalls.{ReadsStalls}

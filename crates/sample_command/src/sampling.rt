@@ -1,9 +1,9 @@
 //! The command `sample`.
 
-ghost use Rattle.std.specs.Prelude.{◌≡◌, ◌≤◌, ◌++◌, Some, IsSome, IfOk, IfErr, OnOk, length};
+ghost use Rattle.std.specs.Prelude.{◌≡◌, ◌≤◌, ◌++◌, false, Some, IsSome, IfOk, IfErr, OnOk, length};
 ghost use Rattle.sample_gen.specs.trace_model.declared.trace.Trace.{Trace as OneTrace};
 ghost use Rattle.replay_command.specs.trace_code.Encoding.{Encodes, HasEncoding};
-ghost use Rattle.sample_gen.specs.room_ledger.Ledger.{fresh};
+ghost use Rattle.sample_gen.specs.room_ledger.Ledger.{empty};
 ghost use Rattle.sample_gen.specs.declared.generate.TheConstants.{LARGEST};
 ghost use Rattle.replay_command.specs.vidi_recorder.Course.{sizes_of};
 ghost use Rattle.replay_command.specs.vidi_bench.AnswerText.{text_of};
@@ -30,13 +30,9 @@ use replay_command::vidi_io::{Fails, MemShelf};
 use replay_command::vidi_recorder::Outcome;
 use replay_command::{decoded, played, trace_over};
 use sample_gen::Sample;
-use sample_gen::script_text::MOST_CYCLES;
-use sample_gen::trace_model::{Channels, Trace};
+use sample_gen::trace_model::{Channels, MOST_CYCLES, Trace};
 use sample_gen::vidi_bits::{Bytes, Memory};
 use std::alloc::Global;
-
-/// For how many cycles a sample is replayed at most.
-const SAMPLE_CYCLES: u32 = MOST_CYCLES as u32;
 
 /// The name of the trace, on a shelf in memory.
 const TRACE: &str = "trace";
@@ -102,7 +98,7 @@ fn traced(alloc: Global, texts: &Texts, stalls: &[u8]) -> Result<MemShelf, Ended
 /// Records the run on a shelf in memory.
 fn recorded(alloc: Global, planned: Planned) -> Result<MemShelf, Ended>
     requires playable { IsPlayable planned.bench }
-    requires room { planned.room ≡ fresh (sizes_of planned.bench.device.map.channels) planned.plan.capacity }
+    requires room { planned.room ≡ empty (sizes_of planned.bench.device.map.channels) false planned.plan.capacity }
     ensures traced { IfOk result (HasTrace (IsTraceOf (course_of planned.bench planned.plan))) }
     ensures refused { IfErr result (EndsWith (IsUnstable (course_of planned.bench planned.plan))) }
 {
@@ -166,7 +162,7 @@ fn replayed(
     requires same { trace.now.channels ≡ device.map.channels }
     ensures { IfOk result (λ a. IsSampleReplay figures device trace.now a.status (text_of a.text)) }
 {
-    let Replayed { outcome, out } = played(alloc, device, bytes, SAMPLE_CYCLES)?;
+    let Replayed { outcome, out } = played(alloc, device, bytes, MOST_CYCLES)?;
     told(alloc, figures, trace, outcome, out.as_slice())
 }
 
@@ -185,7 +181,7 @@ fn told(
 {
     match outcome {
         ReplayOutcome::Ended { cycles } => verdict(alloc, figures, trace, written, cycles),
-        other => replay_command::told(alloc, trace, other, written, SAMPLE_CYCLES),
+        other => replay_command::told(alloc, trace, other, written, MOST_CYCLES),
     }
 }
 

@@ -9,7 +9,7 @@ use Rattle.room_ledger.specs.trace_model.Channel.{between}
 use Rattle.room_ledger.specs.vidi_bits.Findings.{told_if}
 use Rattle.script_text.specs.vidi_lines.declared.lines.Line.{Line}
 use Rattle.script_text.specs.vidi_lines.Lines.{file_lines, line_unless_bad, is_bad, words_between}
-use Rattle.script_text.specs.declared.script.TheConstants.{MOST_CYCLES}
+use Rattle.room_ledger.specs.trace_model.declared.packet.TheConstants.{MOST_CYCLES}
 use Rattle.script_text.specs.declared.said.StepLine.{StepLine}
 use Rattle.script_text.specs.declared.error.ScriptError.{ScriptError}
 use Rattle.script_text.specs.declared.error.ScriptError.TheVariants as E

@@ -1,8 +1,8 @@
 //! Recordings whose push fails: the run goes on while its bytes drain, so the environment stands for no row where the first push fails.
 
-ghost use Rattle.std.specs.Prelude.{◌≡◌, ◌<◌, [], length};
+ghost use Rattle.std.specs.Prelude.{◌≡◌, ◌<◌, [], false, length};
 ghost use Rattle.bench_run.specs.trace_model.Channel.{IsTable};
-ghost use Rattle.vidi_recorder.specs.room_ledger.Ledger.{fresh};
+ghost use Rattle.vidi_recorder.specs.room_ledger.Ledger.{empty};
 ghost use Rattle.bench_run.specs.run_model.Building.{PortsAreNets};
 ghost use Rattle.bench_run.specs.run_model.MapOf.{IsMapOf};
 ghost use Rattle.vidi_recorder.specs.Course.{sizes_of};
@@ -39,7 +39,7 @@ fn offers_after<S: Shell, E: Env>(
     requires mapped { S.map shell.old ≡ map.now }
     requires channels { E.channels env.old ≡ map.now.channels }
     requires first { E.stands_for env.old [] }
-    requires room { room ≡ fresh (sizes_of map.now.channels) stalls.now.capacity }
+    requires room { room ≡ empty (sizes_of map.now.channels) false stalls.now.capacity }
 {
     let mut fails = Numbers::new(alloc);
     fails.push(failing).ok()?;
@@ -62,7 +62,7 @@ fn sends_after<S: Shell>(alloc: Global, shell: &mut S, map: &Map, failing: u128)
     let Ok(stalls) = read_stalls(alloc, ALL_DRAINS) else {
         return None;
     };
-    let room = Room::new(alloc, map.channels(), stalls.capacity()).ok()?;
+    let room = Room::new(alloc, map.channels(), false, stalls.capacity()).ok()?;
     let mut env = ScriptEnv::new(alloc, &script, map).ok()?;
     offers_after(alloc, shell, map, &mut env, &stalls, room, failing)
 }

@@ -1,5 +1,5 @@
 -- What the calls of a shell over the top that replays leave, where their slices are those of the shell.
-use Rattle.std.proofs.Common.{◌≡◌, ℕ, ◌+◌, ◌≤◌, List, [], ◌++◌, Option, Some, None, length, take, refl, sym, ap, subst, ◌∙◌, arith}
+use Rattle.std.proofs.Common.{◌≡◌, ℕ, ◌+◌, ◌≤◌, Bool, List, [], ◌++◌, Option, Some, None, length, take, refl, sym, ap, subst, ◌∙◌, arith}
 use Rattle.std.specs.Prelude.{MatchOption}
 use Rattle.std.specs.List.{refill}
 use Rattle.std.proofs.lemmas.List.{length-take-le, take_at}
@@ -9,6 +9,7 @@ use Rattle.net_design.specs.Lawful.{IsState}
 use Rattle.net_design.specs.Pins.{outputs}
 use Rattle.net_design.specs.Settled.{IsSettled, initial}
 use Rattle.replay_run.specs.trace_model.declared.row.Row.{Row}
+use Rattle.replay_run.specs.trace_model.declared.packet.TheConstants.{MOST_CYCLES}
 use Rattle.replay_run.specs.trace_model.Row.{IsOver}
 use Rattle.replay_run.specs.chan_map.declared.pins.Map.{Map}
 use Rattle.replay_run.specs.chan_map.declared.pins.Reset.{Reset}
@@ -47,31 +48,31 @@ module _ (whole e : Design) (state u : Values) (a : Map) (first : ℕ) (pins len
       (all ∙ made ∙ ap (λ ps. take first ps ++ xs) is) (ap length all ∙ n) known
 
 pub row_shown : (whole e : Design) (state : Values) (a : Map) (first : ℕ) (pins lent now resets : List ℕ) (flight cycles : ℕ) (d : Design)
-    (s : Values) (rows : List Row) → cycles ≤ 50000 → IsState whole state → lent ≡ pins → e ≡ whole → (v : Values)
+    (s : Values) (rows : List Row) → cycles ≤ MOST_CYCLES → IsState whole state → lent ≡ pins → e ≡ whole → (v : Values)
     → IsSettled whole state now v → (feed : Feed) → IsFeedOver a.channels feed → now ≡ take first lent ++ feed_inputs a.channels feed
-    → (row : Row) → row ≡ replay_row a.channels flight feed (outputs e v)
+    → (fresh : Bool) (row : Row) → row ≡ replay_row a.channels fresh flight feed (outputs e v)
     → IsReplaying whole state a first pins resets flight cycles d s rows → IsShown d a s rows feed row
-row_shown whole e state a first pins lent now resets flight cycles d s rows few is same e_is v settled feed over made row filled on =
-    subst (λ (r : Row). IsShown d a s rows feed r) (sym (filled ∙ ap (λ z. replay_row a.channels flight feed (outputs z v)) e_is))
-    (shown on few is feed over (made ∙ ap (λ ps. take first ps ++ feed_inputs a.channels feed) same) settled)
+row_shown whole e state a first pins lent now resets flight cycles d s rows few is same e_is v settled feed over made fresh row filled on =
+    subst (λ (r : Row). IsShown d a s rows feed r) (sym (filled ∙ ap (λ z. replay_row a.channels fresh flight feed (outputs z v)) e_is))
+    (shown on few is feed over (made ∙ ap (λ ps. take first ps ++ feed_inputs a.channels feed) same) settled fresh)
 
 pub row_over : (whole e : Design) (state : Values) (a : Map) (first : ℕ) (pins lent now resets : List ℕ) (flight cycles : ℕ)
-    → cycles ≤ 50000 → IsState whole state → lent ≡ pins → e ≡ whole → (v : Values)
+    → cycles ≤ MOST_CYCLES → IsState whole state → lent ≡ pins → e ≡ whole → (v : Values)
     → IsSettled whole state now v → (feed : Feed) → IsFeedOver a.channels feed → now ≡ take first lent ++ feed_inputs a.channels feed
-    → (row : Row) → row ≡ replay_row a.channels flight feed (outputs e v)
+    → (fresh : Bool) (row : Row) → row ≡ replay_row a.channels fresh flight feed (outputs e v)
     → ∥ IsRunning (IsReplaying whole state a first pins resets flight cycles) ∥₁ → IsOver a.channels row
-row_over whole e state a first pins lent now resets flight cycles few is same e_is v settled feed over made row filled known =
-    subst (IsOver a.channels) (sym (filled ∙ ap (λ z. replay_row a.channels flight feed (outputs z v)) e_is))
+row_over whole e state a first pins lent now resets flight cycles few is same e_is v settled feed over made fresh row filled known =
+    subst (IsOver a.channels) (sym (filled ∙ ap (λ z. replay_row a.channels fresh flight feed (outputs z v)) e_is))
     (known_over whole state a first pins resets flight cycles known few is now v feed over
-    (made ∙ ap (λ ps. take first ps ++ feed_inputs a.channels feed) same) settled)
+    (made ∙ ap (λ ps. take first ps ++ feed_inputs a.channels feed) same) settled fresh)
 
 pub is_replayed : (whole e : Design) (state u : Values) (a : Map) (first : ℕ) (pins lent now inputs : List ℕ) (flight : ℕ)
     → length pins ≡ first + inputs_count a.channels → lent ≡ pins → e ≡ whole → u ≡ state → inputs ≡ now → length now ≡ length lent
     → (v : Values) → IsSettled whole state now v → (feed : Feed) → IsFeedOver a.channels feed
-    → now ≡ take first lent ++ feed_inputs a.channels feed → (row : Row) → row ≡ replay_row a.channels flight feed (outputs e v)
+    → now ≡ take first lent ++ feed_inputs a.channels feed → (fresh : Bool) (row : Row) → row ≡ replay_row a.channels fresh flight feed (outputs e v)
     → (next : ℕ) → next ≡ flight_of (length a.channels) row
     → IsReplayed e u inputs v a first (refill (length pins) pins now) flight (Some next) row
-is_replayed whole e state u a first pins lent now inputs flight count same e_is u_is in_is long v settled feed over made row filled next after =
+is_replayed whole e state u a first pins lent now inputs flight count same e_is u_is in_is long v settled feed over made fresh row filled next after =
     let xs = feed_inputs a.channels feed in
     let n : length now ≡ length pins = long ∙ ap length same in
     let all : refill (length pins) pins now ≡ now = refill-is pins now n in
@@ -85,7 +86,7 @@ is_replayed whole e state u a first pins lent now inputs flight count same e_is 
       settled =
           subst (λ z. IsSettled z u inputs v) (sym e_is)
           (subst (λ z. IsSettled whole z inputs v) (sym u_is) (subst (λ z. IsSettled whole state z v) (sym in_is) settled));
-      shows = filled;
+      shows = filled ∙ ap (λ b. replay_row a.channels b flight feed (outputs e v)) (sym (ap (λ (r : Row). r.fresh) filled));
       after = ap Some after;
     }
 

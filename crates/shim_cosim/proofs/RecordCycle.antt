@@ -210,10 +210,11 @@ module _ {f : FileOf ℕ} {a : Map} {d : Design} {top : ModuleOf ℕ} {s : State
       (fit-joined (made_content a.channels offers out) a.channels fits) over.contents
       (λ c x at. content-joined (made_content a.channels offers out) a.channels fits c x at ∙ piece c x at)
 
-  pub is_filled : row ≡ filled
-  is_filled =
+  pub is_filled : row.fresh ≡ filled.fresh → row ≡ filled
+  is_filled same_fresh =
       let same_gates : row.gates ≡ filled.gates = made.gates_are ∙ sym records.shown.gates_are in
       λ i. record {
+        fresh = same_fresh i;
         gates = same_gates i;
         valids = same_valids i;
         readies = same_readies i;
@@ -264,10 +265,10 @@ module _ {whole : Design} {f : FileOf ℕ} {a : Map} {m : ModuleOf ℕ} {d : Des
         → (row : Row) → IsMadeRow a.channels offers gates (outputs whole V) row → Cycled s before offers gates row (design.next whole V state)
     cycle_is offers gates are zeros below entered row made =
         let found = records_rows f a m d r.wrap T on.full inputs v (tops.cycle r on.full on.state_is is on.narrow settled) before on.flight offers are
-        gates below (tops.has_offers r on.full on.state_is is on.narrow settled offers gates are entered) in
-        let records : Records f a d T on.full v before offers gates found.0 = found.1 in
+        gates below (tops.has_offers r on.full on.state_is is on.narrow settled offers gates are entered) row.fresh in
+        let records : Records f a d T on.full v before offers gates found.0 = found.2 in
         let same : row ≡ found.0 =
-        is_filled records (outputs whole V) (tops.outputs_are r on.full on.state_is is on.narrow settled) are zeros made in
+        is_filled records (outputs whole V) (tops.outputs_are r on.full on.state_is is on.narrow settled) are zeros made (sym found.1) in
         let later = full (design.next whole V state) (next_state whole law V state is) in
         let steps = records.next later.full (goes_on later.full later.is) in
         record {

@@ -28,6 +28,7 @@ use Rattle.replay_run.specs.trace_model.declared.channel.Channel.{Channel}
 use Rattle.replay_run.specs.trace_model.declared.channel.Dir.{Dir}
 use Rattle.replay_run.specs.trace_model.declared.channel.Dir.TheVariants.{Inward, Outward}
 use Rattle.replay_run.specs.trace_model.declared.row.Row.{Row}
+use Rattle.replay_run.specs.trace_model.declared.packet.TheConstants.{MOST_CYCLES}
 use Rattle.replay_run.specs.trace_model.Row.{row_before, flies_after}
 use Rattle.replay_run.proofs.trace_model_lemmas.CountingLemmas.{count-cons}
 use Rattle.replay_run.specs.chan_map.declared.pins.Map.{Map}
@@ -299,29 +300,30 @@ module _ {file : FileOf ℕ} {a : Map} {tree : ModuleOf ℕ} {d whole : Design} 
   -- ---- the design inside, under a feed
   module _ {state v : Values} {inputs : List ℕ} (full : State) (narrow : (name : Full) (k : ℕ) → full.words name k < 2 ^ 128)
       (state_is : state_of whole full ≡ state) (is_state : IsState whole state) (settled : IsSettled whole state inputs v)
-      (rows : List Row) (few : length rows ≤ 50000) (counts : Counts a rows full) (feed : Feed) (over : IsFeedOver a.channels feed)
+      (rows : List Row) (few : length rows ≤ MOST_CYCLES) (counts : Counts a rows full) (feed : Feed) (over : IsFeedOver a.channels feed)
       (entered_is : inputs ≡ held_inputs a false tree.ports ++ feed_inputs a.channels feed) (flight : ℕ)
-      (flies : (c : ℕ) → has flight c ≡ flies_after (row_before rows (length rows)) c) where
-    found : (row : Row) × Replays file a d round.top.design.top full (nets full narrow state_is is_state settled) rows feed row
+      (flies : (c : ℕ) → has flight c ≡ flies_after (row_before rows (length rows)) c) (fresh : Bool) where
+    found : (row : Row) × (row.fresh ≡ fresh) × Replays file a d round.top.design.top full (nets full narrow state_is is_state settled) rows feed row
     found =
         replays_rows file a tree d w round.top.design.top full inputs (nets full narrow state_is is_state settled)
         (cycle full narrow state_is is_state settled) rows few counts feed over
-        (has_feed full narrow state_is is_state settled feed over entered_is)
+        (has_feed full narrow state_is is_state settled feed over entered_is) fresh
 
-    row_same : replay_row a.channels flight feed (outputs whole v) ≡ found.0
+    row_same : replay_row a.channels fresh flight feed (outputs whole v) ≡ found.0
     row_same =
-        row_is a (nets full narrow state_is is_state settled) (outputs whole v) (outputs_are full narrow state_is is_state settled) flight feed rows
-        found.0 found.1.shown.over found.1.shown.marked found.1.shown.gates_are found.1.shown.fed found.1.ports flies
+        ap (λ b. replay_row a.channels b flight feed (outputs whole v)) (sym found.1)
+        ∙ row_is a (nets full narrow state_is is_state settled) (outputs whole v) (outputs_are full narrow state_is is_state settled) flight feed rows
+        found.0 found.2.shown.over found.2.shown.marked found.2.shown.gates_are found.2.shown.fed found.2.ports flies
 
-    pub shown : IsShown d a (own_state d full) rows feed (replay_row a.channels flight feed (outputs whole v))
-    shown = subst (λ (r : Row). IsShown d a (own_state d full) rows feed r) (sym row_same) found.1.shown
+    pub shown : IsShown d a (own_state d full) rows feed (replay_row a.channels fresh flight feed (outputs whole v))
+    shown = subst (λ (r : Row). IsShown d a (own_state d full) rows feed r) (sym row_same) found.2.shown
 
-    pub stepped : IsStep d a (own_state d full) (replay_row a.channels flight feed (outputs whole v))
+    pub stepped : IsStep d a (own_state d full) (replay_row a.channels fresh flight feed (outputs whole v))
         (own_state d (goes_on full narrow state_is is_state settled).full)
-        × Counts a (rows ++ replay_row a.channels flight feed (outputs whole v) ∷ []) (goes_on full narrow state_is is_state settled).full
+        × Counts a (rows ++ replay_row a.channels fresh flight feed (outputs whole v) ∷ []) (goes_on full narrow state_is is_state settled).full
     stepped =
         let after = goes_on full narrow state_is is_state settled in
-        let r = found.1.next after.full (next_is full narrow state_is is_state settled) in
+        let r = found.2.next after.full (next_is full narrow state_is is_state settled) in
         subst (λ (row : Row). IsStep d a (own_state d full) row (own_state d after.full) × Counts a (rows ++ row ∷ []) after.full) (sym row_same) r
 
   -- ---- reset cycles

@@ -271,9 +271,10 @@ module _ (a : Map) (v : Full → ℕ) (out : List ℕ) (are : AreOutputs a.chann
       sym (here_is c x at)
       ∙ sym (content-joined (λ c. content_of a.channels valids feed.contents out c (slice_get a.channels c)) a.channels fits c x at))
 
-  pub row_is : replay_row a.channels flight feed out ≡ row
+  pub row_is : replay_row a.channels row.fresh flight feed out ≡ row
   row_is =
       λ i. record {
+        fresh = row.fresh;
         gates = (sym gates) i;
         valids = (sym valids_are) i;
         readies = (sym readies_are) i;

@@ -20,6 +20,7 @@ use Rattle.net_design.specs.Pins as pins
 use Rattle.net_design.specs.Settled.{initial, next, IsSettled}
 use Rattle.replay_run.specs.trace_model.declared.channel.Channel.{Channel}
 use Rattle.replay_run.specs.trace_model.declared.row.Row.{Row}
+use Rattle.replay_run.specs.trace_model.declared.packet.TheConstants.{MOST_CYCLES}
 use Rattle.replay_run.specs.trace_model.Row.{row_before, flies_after, is_in_flight, IsOver}
 use Rattle.replay_run.proofs.trace_model_lemmas.ContentsLemmas.{fit_prop}
 use Rattle.replay_run.proofs.trace_model_lemmas.RowLemmas.{before-last}
@@ -54,9 +55,6 @@ module _ (whole : Design) (state : Values) (a : Map) (first : ℕ) (now resets :
   abbrev Runs : Type 0
   Runs = IsRunning (IsReplaying whole state a first now resets flight cycles)
 
-  pub known_some : 1 ≤ length a.channels
-  known_some = ∥∥₁_elim known (hlevel props) (λ (r : Runs). r.3.round.wrap.mapped.table.some)
-
   pub known_few : length a.channels ≤ 128
   known_few = ∥∥₁_elim known (hlevel props) (λ (r : Runs). (let f = r.3.round.wrap.mapped.table.few in omega (arith, f)))
 
@@ -85,28 +83,28 @@ module _ (whole : Design) (state : Values) (a : Map) (first : ℕ) (now resets :
 
 -- ---- the row of a cycle
 module _ {whole : Design} {state : Values} {a : Map} {first : ℕ} {now resets : List ℕ} {flight cycles : ℕ} {d : Design} {s : Values}
-    {rows : List Row} (is : IsReplaying whole state a first now resets flight cycles d s rows) (few : cycles ≤ 50000)
+    {rows : List Row} (is : IsReplaying whole state a first now resets flight cycles d s rows) (few : cycles ≤ MOST_CYCLES)
     (is_state : IsState whole state) {inputs : List ℕ} {v : Values} (feed : Feed) (over : IsFeedOver a.channels feed)
     (entered : inputs ≡ take first now ++ feed_inputs a.channels feed) (settled : IsSettled whole state inputs v) where
-  short : length rows ≤ 50000
+  short : length rows ≤ MOST_CYCLES
   short = (let m = is.many in omega (arith, m, few))
 
   entered_is : inputs ≡ held_inputs a false is.tree.ports ++ feed_inputs a.channels feed
   entered_is = entered ∙ ap (λ ys. ys ++ feed_inputs a.channels feed) is.held.held
 
-  pub shown : IsShown d a s rows feed (replay_row a.channels flight feed (outputs whole v))
-  shown =
-      subst (λ (t : Values). IsShown d a t rows feed (replay_row a.channels flight feed (outputs whole v))) is.own
-      (cycle.shown is.round is.full is.narrow is.state_is is_state settled rows short is.counts feed over entered_is flight is.flies)
+  pub shown : (fresh : Bool) → IsShown d a s rows feed (replay_row a.channels fresh flight feed (outputs whole v))
+  shown fresh =
+      subst (λ (t : Values). IsShown d a t rows feed (replay_row a.channels fresh flight feed (outputs whole v))) is.own
+      (cycle.shown is.round is.full is.narrow is.state_is is_state settled rows short is.counts feed over entered_is flight is.flies fresh)
 
 pub known_over : (whole : Design) (state : Values) (a : Map) (first : ℕ) (now resets : List ℕ) (flight cycles : ℕ)
-    → ∥ IsRunning (IsReplaying whole state a first now resets flight cycles) ∥₁ → cycles ≤ 50000 → IsState whole state
+    → ∥ IsRunning (IsReplaying whole state a first now resets flight cycles) ∥₁ → cycles ≤ MOST_CYCLES → IsState whole state
     → (inputs : List ℕ) (v : Values)
     (feed : Feed) → IsFeedOver a.channels feed → inputs ≡ take first now ++ feed_inputs a.channels feed → IsSettled whole state inputs v
-    → IsOver a.channels (replay_row a.channels flight feed (outputs whole v))
-known_over whole state a first now resets flight cycles known few is_state inputs v feed over entered settled =
-    ∥∥₁_elim known (over_prop a (replay_row a.channels flight feed (outputs whole v)))
-    (λ (r : IsRunning (IsReplaying whole state a first now resets flight cycles)). (shown r.3 few is_state feed over entered settled).over)
+    → (fresh : Bool) → IsOver a.channels (replay_row a.channels fresh flight feed (outputs whole v))
+known_over whole state a first now resets flight cycles known few is_state inputs v feed over entered settled fresh =
+    ∥∥₁_elim known (over_prop a (replay_row a.channels fresh flight feed (outputs whole v)))
+    (λ (r : IsRunning (IsReplaying whole state a first now resets flight cycles)). (shown r.3 few is_state feed over entered settled fresh).over)
 
 -- ---- a cycle that is driven
 pub refill_is : {X : Type 0} (xs ys : List X) → length ys ≡ length xs → refill (length xs) xs ys ≡ ys
@@ -175,19 +173,18 @@ flight_after a row over gates c =
 
 -- ---- the clock
 pub clocked_on : (whole later : Design) (state after v : Values) (inputs : List ℕ) (a : Map) (first : ℕ) (now resets : List ℕ)
-    (flight cycles new more : ℕ) (last : Option ℕ) (row : Row) → later ≡ whole → cycles ≤ 50000 → IsState whole state
+    (flight cycles new more : ℕ) (last : Option ℕ) (row : Row) → later ≡ whole → cycles ≤ MOST_CYCLES → IsState whole state
     → IsReplayed whole state inputs v a first now flight last row → last ≡ Some new → after ≡ next whole v state → more ≡ cycles + 1
     → (d : Design) (s : Values) (rows : List Row) → IsReplaying whole state a first now resets flight cycles d s rows
     → GoesTo (λ e t us. IsReplaying later after a first now resets new more e t us) d a s rows row
 clocked_on whole later state after v inputs a first now resets flight cycles new more last row e few is_state driven l n m d s rows is =
     let feed = driven.feed in
-    let made = replay_row a.channels flight feed (outputs whole v) in
     let entered = entered_is is few is_state feed driven.over driven.entered driven.settled in
     let goes = cycle.goes_on is.round is.full is.narrow is.state_is is_state driven.settled in
     let step = cycle.stepped is.round is.full is.narrow is.state_is is_state driven.settled rows
-    (short is few is_state feed driven.over driven.entered driven.settled) is.counts feed driven.over entered flight is.flies in
+    (short is few is_state feed driven.over driven.entered driven.settled) is.counts feed driven.over entered flight is.flies row.fresh in
     let row_shown : IsShown d a s rows feed row =
-    subst (λ (r : Row). IsShown d a s rows feed r) (sym driven.shows) (shown is few is_state feed driven.over driven.entered driven.settled) in
+    subst (λ (r : Row). IsShown d a s rows feed r) (sym driven.shows) (shown is few is_state feed driven.over driven.entered driven.settled row.fresh) in
     let so : IsStep d a s row (own_state d goes.full) =
     subst (λ (t : Values). IsStep d a t row (own_state d goes.full)) is.own
     (subst (λ (r : Row). IsStep d a (own_state d is.full) r (own_state d goes.full)) (sym driven.shows) step.0) in
@@ -247,7 +244,7 @@ running_again whole later state after a first now resets flight cycles many e m 
     (let n = reset_on whole later state after a first now resets flight cycles many e m goes r.0 r.1 r.2 r.3 in (r.0, n.0, [], n.2)))
 
 pub running_clocked : (whole later : Design) (state after v : Values) (inputs : List ℕ) (a : Map) (first : ℕ) (now resets : List ℕ)
-    (flight cycles new more : ℕ) (last : Option ℕ) (row : Row) → later ≡ whole → cycles ≤ 50000 → IsState whole state
+    (flight cycles new more : ℕ) (last : Option ℕ) (row : Row) → later ≡ whole → cycles ≤ MOST_CYCLES → IsState whole state
     → IsReplayed whole state inputs v a first now flight last row → last ≡ Some new → after ≡ next whole v state → more ≡ cycles + 1
     → ∥ IsRunning (IsReplaying whole state a first now resets flight cycles) ∥₁
     → ∥ IsRunning (IsReplaying later after a first now resets new more) ∥₁

@@ -43,5 +43,5 @@ pub record IsReplayed (whole : Design) (state : Values) (inputs : List ℕ) (v :
   pub over : IsFeedOver a.channels feed
   pub entered : inputs ≡ take first pins ++ feed_inputs a.channels feed
   pub settled : IsSettled whole state inputs v
-  pub shows : row ≡ replay_row a.channels flight feed (outputs whole v)
+  pub shows : row ≡ replay_row a.channels row.fresh flight feed (outputs whole v)
   pub after : next ≡ Some (flight_of (length a.channels) row)

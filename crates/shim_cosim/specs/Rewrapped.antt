@@ -91,12 +91,13 @@ content_of channels valids fed out c (Some x) = content_on channels valids fed o
 abbrev pub contents_of : List Channel → ℕ → List ℕ → List ℕ → List ℕ
 contents_of channels valids fed out = joined (λ c. content_of channels valids fed out c (slice_get channels c)) 0 channels
 
--- the row under this feed, where these channels were in flight before
-abbrev pub replay_row : List Channel → ℕ → Feed → List ℕ → Row
-replay_row channels flight feed out =
+-- the row of this mark under this feed, where these channels were in flight before
+abbrev pub replay_row : List Channel → Bool → ℕ → Feed → List ℕ → Row
+replay_row channels fresh flight feed out =
     let n = length channels in
     let valids = mask_of (is_raised channels out Valid) n in
     record {
+      fresh = fresh;
       gates = all_up channels;
       valids = valids;
       readies = mask_of (is_raised channels out Ready) n;

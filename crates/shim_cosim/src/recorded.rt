@@ -210,7 +210,8 @@ pub(crate) fn show<B: Block>(
     requires places { outputs_count channels.now ≤ design.output_count (B.design block.now) }
     requires offers { Fit (all_widths channels.now) offers.now.contents }
     requires contents { HasPlaces channels.now row.old }
-    ensures { IsMadeRow channels.now offers.now gates (outputs (B.design block.now) (B.shown block.now)) row.new }
+    ensures made { IsMadeRow channels.now offers.now gates (outputs (B.design block.now) (B.shown block.now)) row.new }
+    ensures fresh { row.new.fresh ≡ row.old.fresh }
 {
     let side = raised(block, channels, Spot::Side);
     fill(block, channels, offers, row.contents.as_mut_slice());

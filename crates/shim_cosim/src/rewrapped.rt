@@ -2,6 +2,7 @@
 
 ghost use Rattle.std.specs.Prelude.{◌≡◌, ◌+◌, ◌++◌, ◌≤◌, ℕ, List, [], IfOk, MatchResult, length, take};
 ghost use Rattle.replay_run.specs.trace_model.declared.row.Row.{Row as OneRow};
+ghost use Rattle.replay_run.specs.trace_model.declared.packet.TheConstants.{MOST_CYCLES};
 ghost use Rattle.vlog_tree.specs.Tree.{FileOf};
 ghost use Rattle.vlog_tree.specs.Plain.{plain};
 ghost use Rattle.net_design.specs.declared.design.Design.{Design};
@@ -52,7 +53,7 @@ pub struct RerunShell<'a, B: Block> {
     next: Option<u128>,
     ghost running: { ∥ IsRunning (IsReplaying (B.design block) (B.state block) map.now first pins resets flight cycles) ∥₁ },
     ghost places: { length outputs ≡ outputs_count map.now.channels },
-    ghost few: { cycles ≤ 50000 },
+    ghost few: { cycles ≤ MOST_CYCLES },
 }
 
 /// A wrapped file with the top that replays, simulated as one flat design. Only `new` takes memory.
@@ -85,14 +86,13 @@ fn show_row<B: Block>(
     numbers: &mut [u128],
     row: &mut Row,
 ) -> u128
-    requires some { 1 ≤ length map.now.channels }
     requires few { length map.now.channels ≤ 128 }
     requires feed { IsFeedOver map.now.channels feed.now }
     requires numbers { length numbers.old ≡ outputs_count map.now.channels }
     requires many { output_count (B.design block.now) ≡ outputs_count map.now.channels }
     requires shown { length (outputs (B.design block.now) (B.shown block.now)) ≡ outputs_count map.now.channels }
     requires places { HasPlaces map.now.channels row.old }
-    ensures row { row.new ≡ replay_row map.now.channels flight feed.now (outputs (B.design block.now) (B.shown block.now)) }
+    ensures row { row.new ≡ replay_row map.now.channels row.old.fresh flight feed.now (outputs (B.design block.now) (B.shown block.now)) }
     ensures next { result ≡ flight_of (length map.now.channels) row.new }
 {
     read_outputs(block, numbers);

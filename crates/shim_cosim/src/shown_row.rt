@@ -13,7 +13,7 @@ ghost use Rattle.shim_cosim.specs.Rewrapped as spec;
 use net_design::Block;
 use net_sim::vidi_bits::{Items, Memory, Numbers};
 use replay_run::chan_replayer::{Feed, clear_content};
-use replay_run::trace_model::{Channel, Dir, Row, names, push_zeros, with_bit};
+use replay_run::trace_model::{Channel, Dir, Row, all_up, names, push_zeros, with_bit};
 use std::alloc::Global;
 
 /// An output of one bit that each channel has.
@@ -157,17 +157,16 @@ pub(crate) fn fill_row(
     outputs: &[u128],
     row: &mut Row,
 )
-    requires some { 1 ≤ length channels.now }
     requires few { length channels.now ≤ 128 }
     requires feed { IsFeedOver channels.now feed.now }
     requires long { length outputs.now ≡ spec.outputs_count channels.now }
     requires places { HasPlaces channels.now row.old }
-    ensures { row.new ≡ spec.replay_row channels.now flight feed.now outputs.now }
+    ensures { row.new ≡ spec.replay_row channels.now row.old.fresh flight feed.now outputs.now }
 {
     let valids = raised(channels, outputs, Signal::Valid);
     let fed = feed.contents.as_slice();
     fill_contents(channels, valids, fed, outputs, row.contents.as_mut_slice());
-    row.gates = u128::MAX >> (128 - channels.len());
+    row.gates = all_up(channels.len());
     row.valids = valids;
     row.readies = raised(channels, outputs, Signal::Ready);
     row.starts = without(valids, flight);

@@ -93,7 +93,8 @@ fn fill_row<B: Block>(block: &B, map: &Map, offers: &Offers, gates: u128, row: &
     requires places { outputs_count map.now.channels ≤ output_count (B.design block.now) }
     requires offers { AreOffers map.now.channels offers.now }
     requires contents { HasPlaces map.now.channels row.old }
-    ensures { IsMadeRow map.now.channels offers.now gates (outputs (B.design block.now) (B.shown block.now)) row.new }
+    ensures made { IsMadeRow map.now.channels offers.now gates (outputs (B.design block.now) (B.shown block.now)) row.new }
+    ensures fresh { row.new.fresh ≡ row.old.fresh }
 {
     show(block, map.channels.as_slice(), offers, gates, row);
 }

@@ -68,6 +68,7 @@ fn put_event(text: &mut Vec<u8>, event: Event) -> Result<(), Memory> {
     match event.kind {
         Kind::Start => put(text, b" start ")?,
         Kind::End => put(text, b" end ")?,
+        Kind::Reset => put(text, b" reset ")?,
     }
     put_spaced(text, event.index)
 }

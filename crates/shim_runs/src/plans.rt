@@ -1,10 +1,10 @@
 //! Plans of recordings, and recordings by a shell.
 
-ghost use Rattle.std.specs.Prelude.{◌≡◌, ◌≤◌, [], IfOk, length};
+ghost use Rattle.std.specs.Prelude.{◌≡◌, ◌≤◌, [], false, IfOk, length};
 ghost use Rattle.shim_cosim.specs.trace_model.Channel.{IsTable};
-ghost use Rattle.shim_cosim.specs.script_text.declared.script.TheConstants.{MOST_CYCLES};
+ghost use Rattle.shim_cosim.specs.trace_model.declared.packet.TheConstants.{MOST_CYCLES};
 ghost use Rattle.shim_cosim.specs.script_text.Fits.{FitsChannels};
-ghost use Rattle.shim_cosim.specs.room_ledger.Ledger.{fresh};
+ghost use Rattle.shim_cosim.specs.room_ledger.Ledger.{empty};
 ghost use Rattle.shim_cosim.specs.vidi_recorder.Course.{sizes_of};
 
 use crate::ended::Ended;
@@ -57,9 +57,9 @@ pub fn plan_in<S: Shelf>(
 /// A new store of these stalls.
 fn room_of(alloc: Global, channels: &Channels, stalls: &Stalls) -> Result<Room, Ended>
     requires { IsTable channels.now }
-    ensures { IfOk result (λ room. room ≡ fresh (sizes_of channels.now) stalls.now.capacity) }
+    ensures { IfOk result (λ room. room ≡ empty (sizes_of channels.now) false stalls.now.capacity) }
 {
-    match Room::new(alloc, channels, stalls.capacity()) {
+    match Room::new(alloc, channels, false, stalls.capacity()) {
         Ok(room) => Ok(room),
         Err(error) => Err(Ended::from(error)),
     }

@@ -5,6 +5,7 @@ ghost use Rattle.vlog_tree.specs.Tree.{FileOf};
 ghost use Rattle.vlog_tree.specs.Plain.{plain};
 ghost use Rattle.net_design.specs.declared.design.Design.{Design as OneDesign};
 ghost use Rattle.shim_cosim.specs.trace_model.declared.trace.Trace.{Trace as OneTrace};
+ghost use Rattle.shim_cosim.specs.trace_model.declared.packet.TheConstants.{MOST_CYCLES};
 ghost use Rattle.shim_cosim.specs.trace_code.Encoding.{Encodes};
 ghost use Rattle.shim_cosim.specs.run_model.Building.{PortsAreNets};
 ghost use Rattle.shim_cosim.specs.run_model.MapOf.{IsMapOf};
@@ -49,7 +50,7 @@ fn both_replays<S: Shelf, B: Block + Drop>(
     requires nets { PortsAreNets (B.design block) }
     requires mapped { IsMapOf (B.design block) map.now }
     requires wrapped { (f : FileOf ℕ) × (d : OneDesign) × IsWrapOf (plain wrapped.now) f map.now d }
-    requires few { cycles ≤ 50000 }
+    requires few { cycles ≤ MOST_CYCLES }
 {
     let bytes = bytes_in(alloc, shelf, trace.as_str())?;
     let _trace = trace_over(alloc, bytes.as_slice(), map)?;
@@ -93,7 +94,7 @@ fn by_machines<B: Block + Drop>(
     requires nets { PortsAreNets (B.design block) }
     requires mapped { IsMapOf (B.design block) map.now }
     requires trace { (t : OneTrace) × Encodes t bytes.now × (t.channels ≡ map.now.channels) }
-    requires few { cycles ≤ 50000 }
+    requires few { cycles ≤ MOST_CYCLES }
 {
     put(text, b"machines ")?;
     let mut shell = ReplayMachines::new(alloc, block, map)?;
@@ -111,7 +112,7 @@ fn by_wrapped(
 ) -> Result<(), Ended>
     requires wrapped { (f : FileOf ℕ) × (d : OneDesign) × IsWrapOf (plain wrapped.now) f map.now d }
     requires trace { (t : OneTrace) × Encodes t bytes.now × (t.channels ≡ map.now.channels) }
-    requires few { cycles ≤ 50000 }
+    requires few { cycles ≤ MOST_CYCLES }
 {
     put(text, b"wrapped ")?;
     let mut shell = Rewrapped::new(alloc, wrapped, map)?;
@@ -129,7 +130,7 @@ fn put_replay<S: ReplayShell>(
 ) -> Result<(), Ended>
     requires mapped { S.map shell.old ≡ map.now }
     requires trace { (t : OneTrace) × Encodes t bytes.now × (t.channels ≡ map.now.channels) }
-    requires few { cycles ≤ 50000 }
+    requires few { cycles ≤ MOST_CYCLES }
 {
     let replayed = shim_cosim::replay_run::replay(alloc, shell, map, bytes, cycles)?;
     put_outcome(text, &replayed.outcome)?;

@@ -1,10 +1,12 @@
 //! The files of a case, and what is written of numbers, bytes and nets.
 
 ghost use Rattle.std.specs.Prelude.{◌≤◌, IfOk, length};
+ghost use Rattle.shim_cosim.specs.trace_model.declared.packet.TheConstants.{MOST_CYCLES};
 
 use crate::ended::Ended;
 use report_text::put;
 use report_text::vidi_io::{Shelf, Text, read_whole};
+use shim_cosim::trace_model::MOST_CYCLES;
 use shim_cosim::vidi_lines::{Lines, lines_of};
 use std::alloc::Global;
 use vlog_parse::vidi_bits::{Bytes, Memory};
@@ -25,12 +27,12 @@ pub fn lines_in<S: Shelf>(alloc: Global, shelf: &mut S, name: &str) -> Result<Li
     Ok(lines_of(alloc, bytes.as_slice())?)
 }
 
-/// The number of at most 50,000 that a word writes.
+/// The number of at most `MOST_CYCLES` that a word writes.
 pub fn cycles_of(word: &Text) -> Result<u32, Ended>
-    ensures { IfOk result (λ n. n ≤ 50000) }
+    ensures { IfOk result (λ n. n ≤ MOST_CYCLES) }
 {
     match word.as_str().parse::<u32>() {
-        Ok(n) if n <= 50_000 => Ok(n),
+        Ok(n) if n <= MOST_CYCLES => Ok(n),
         _ => Err(Ended::Usage),
     }
 }

@@ -135,37 +135,37 @@ module _ {f : FileOf ℕ} {a : Map} {m : ModuleOf ℕ} {d : Design} (w : IsWrapp
       (linked w round (link pin y) there) net
 
   -- the row of these offers and gates
-  module _ (before : Option Row) (offers : Offers) (are : AreOffers a.channels offers) (gates : ℕ) (below : gates < 2 ^ length a.channels)
-      (carry : CarryRow T (links valid ready a) v a false (row_of a before offers gates [])) where
+  module _ (fresh : Bool) (before : Option Row) (offers : Offers) (are : AreOffers a.channels offers) (gates : ℕ) (below : gates < 2 ^ length a.channels)
+      (carry : CarryRow T (links valid ready a) v a false (row_of a fresh before offers gates [])) where
     abbrev pub row : Row
-    row = row_of a before offers gates (outputs d inner)
+    row = row_of a fresh before offers gates (outputs d inner)
 
     pub fits : FitOutputs d (outputs d inner)
     fits = fit-outputs d (ports-are_nets d w.lawful) inner settled_inside.keeps.fit
 
-    first_over : IsOver a.channels (row_of a before offers gates [])
-    first_over = row-over d a w.mapped before offers are gates below [] (no_outputs d)
+    first_over : IsOver a.channels (row_of a fresh before offers gates [])
+    first_over = row-over d a w.mapped fresh before offers are gates below [] (no_outputs d)
 
-    entered : ArePins d a false (row_of a before offers gates []) (pins_below m DUT v)
+    entered : ArePins d a false (row_of a fresh before offers gates []) (pins_below m DUT v)
     entered =
-        pins_enter round.dut settled d w.built.ports a w.mapped false (row_of a before offers gates [])
-        (small-row a.channels (row_of a before offers gates []) first_over) carry
+        pins_enter round.dut settled d w.built.ports a w.mapped false (row_of a fresh before offers gates [])
+        (small-row a.channels (row_of a fresh before offers gates []) first_over) carry
 
     step : IsStep d a (own_state d s) row (design.next d inner (own_state d s))
-    step = row-step d a (ports-are_nets d w.lawful) w.mapped before offers are gates below (own_state d s) (pins_below m DUT v) inner entered settled_inside
+    step = row-step d a (ports-are_nets d w.lawful) w.mapped fresh before offers are gates below (own_state d s) (pins_below m DUT v) inner entered settled_inside
 
     pub goes_to : (after : State) → IsNext (files.more_of f a) T s v after → IsStep d a (own_state d s) row (own_state d after)
     goes_to after goes = subst (IsStep d a (own_state d s) row) (next_inside after goes) step
 
     pub marked : IsMarked before row
-    marked = row-marked a before offers gates (outputs d inner)
+    marked = row-marked a fresh before offers gates (outputs d inner)
 
     pub carried : Carries a.channels offers row
-    carried = row-carries d a w.mapped before offers are gates (outputs d inner) fits
+    carried = row-carries d a w.mapped fresh before offers are gates (outputs d inner) fits
 
     pub is_shown : IsShown d a (own_state d s) before offers gates row
     is_shown = record {
-      over = row-over d a w.mapped before offers are gates below (outputs d inner) fits;
+      over = row-over d a w.mapped fresh before offers are gates below (outputs d inner) fits;
       marked = marked;
       carries = carried;
       gates_are = refl;
@@ -179,4 +179,4 @@ module _ {f : FileOf ℕ} {a : Map} {m : ModuleOf ℕ} {d : Design} (w : IsWrapp
       plug_here = has-plug d a w.mapped c x at
 
       pub shows_here : ShowsPlug (outputs d inner) a.channels row c x.dir plug_here.plug
-      shows_here = row-shows d a w.mapped before offers are gates (outputs d inner) fits c x plug_here.plug at plug_here.at
+      shows_here = row-shows d a w.mapped fresh before offers are gates (outputs d inner) fits c x plug_here.plug at plug_here.at

@@ -68,13 +68,13 @@ module _ {f : FileOf ℕ} {a : Map} {m : ModuleOf ℕ} {d : Design} (w : IsWrapp
   ready_now c = v (numbered (codes "r_") c ∷ []) == 1
 
   -- ---- offers and gates
-  module _ (before : Option Row) (flies : Flies a before s) (offers : Offers) (are : AreOffers a.channels offers) (gates : ℕ)
+  module _ (fresh : Bool) (before : Option Row) (flies : Flies a before s) (offers : Offers) (are : AreOffers a.channels offers) (gates : ℕ)
       (below : gates < 2 ^ length a.channels) (on : HasOffers a offers gates v) where
     abbrev first : Row
-    first = row_of a before offers gates []
+    first = row_of a fresh before offers gates []
 
     first_carries : (c : ℕ) (x : Channel) → slice_get a.channels c ≡ Some x → CarriesOn a.channels offers first c x.dir
-    first_carries c x at = row-carries d a w.mapped before offers are gates [] (no_outputs d) c x at
+    first_carries c x at = row-carries d a w.mapped fresh before offers are gates [] (no_outputs d) c x at
 
     carry_plug : (c : ℕ) (x : Channel) (plug : Plug) (at : slice_get a.channels c ≡ Some x) → slice_get a.plugs c ≡ Some plug
         → (dir : Dir) → x.dir ≡ dir → HasOffer v a.channels offers c dir x.widths → CarriesOn a.channels offers first c dir
@@ -111,7 +111,7 @@ module _ {f : FileOf ℕ} {a : Map} {m : ModuleOf ℕ} {d : Design} (w : IsWrapp
     }
 
     abbrev row : Row
-    row = cycle.row w round settled small on.held.clock before offers are gates below carry
+    row = cycle.row w round settled small on.held.clock fresh before offers are gates below carry
 
     abbrev out : List ℕ
     out = outputs d (cycle.inner w round settled small on.held.clock)
@@ -157,16 +157,16 @@ module _ {f : FileOf ℕ} {a : Map} {m : ModuleOf ℕ} {d : Design} (w : IsWrapp
 
     here : (c : ℕ) (x : Channel) (at : slice_get a.channels c ≡ Some x) → OnChannel c x.dir x.widths
     here c x at =
-        let p = cycle.plug_here w round settled small on.held.clock before offers are gates below carry c x at in
+        let p = cycle.plug_here w round settled small on.held.clock fresh before offers are gates below carry c x at in
         on_channel c x at p.plug p.at x.dir refl p.is (on.offered c x at)
-        (cycle.carried w round settled small on.held.clock before offers are gates below carry c x at)
-        (cycle.shows_here w round settled small on.held.clock before offers are gates below carry c x at)
+        (cycle.carried w round settled small on.held.clock fresh before offers are gates below carry c x at)
+        (cycle.shows_here w round settled small on.held.clock fresh before offers are gates below carry c x at)
 
     records : Records f a d T s v before offers gates row
     records =
-        let marked = cycle.marked w round settled small on.held.clock before offers are gates below carry in
+        let marked = cycle.marked w round settled small on.held.clock fresh before offers are gates below carry in
         record {
-          shown = cycle.is_shown w round settled small on.held.clock before offers are gates below carry;
+          shown = cycle.is_shown w round settled small on.held.clock fresh before offers are gates below carry;
           ports = record {
             valid = λ c x at. (here c x at).valid;
             ready = λ c x at. (here c x at).ready;
@@ -181,7 +181,7 @@ module _ {f : FileOf ℕ} {a : Map} {m : ModuleOf ℕ} {d : Design} (w : IsWrapp
                 (flies_after before c) (flies c x at) ∙ ap truth (sym (marked.ends c)));
           };
           next = λ after goes. (
-            cycle.goes_to w round settled small on.held.clock before offers are gates below carry after goes,
+            cycle.goes_to w round settled small on.held.clock fresh before offers are gates below carry after goes,
             (λ c x at.
                 (let h = here c x at in
                 top.flight_is w c x at settled (has gates c) (has row.valids c) (has row.readies c) (on.gate c x at) h.valid h.ready
@@ -191,14 +191,15 @@ module _ {f : FileOf ℕ} {a : Map} {m : ModuleOf ℕ} {d : Design} (w : IsWrapp
         }
 
 pub records_rows : RecordsRows
-records_rows f a m d w T s pins v h before flies offers are gates below on =
+records_rows f a m d w T s pins v h before flies offers are gates below on fresh =
     let same : T ≡ record_top a m.ports =
     files.top_is w record_name T (record_top a m.ports) h.named (files.record_there w) refl in
     let settled : IsSettled (wrapped f a).modules (record_top a m.ports) s pins v =
     subst (λ (t : ModuleOf ℕ). IsSettled (wrapped f a).modules t s pins v) same h.settled in
     let narrow : AreNarrow (wrapped f a).modules (record_top a m.ports) s.words =
     subst (λ (t : ModuleOf ℕ). AreNarrow (wrapped f a).modules t s.words) same h.narrow in (
-      row w settled narrow before flies offers are gates below on,
-      subst (λ (t : ModuleOf ℕ). Records f a d t s v before offers gates (row w settled narrow before flies offers are gates below on)) (sym same)
-          (records w settled narrow before flies offers are gates below on),
+      row w settled narrow fresh before flies offers are gates below on,
+      refl,
+      subst (λ (t : ModuleOf ℕ). Records f a d t s v before offers gates (row w settled narrow fresh before flies offers are gates below on)) (sym same)
+          (records w settled narrow fresh before flies offers are gates below on),
     )

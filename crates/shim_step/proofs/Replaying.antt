@@ -17,6 +17,7 @@ use Rattle.chan_replayer.specs.trace_model.declared.channel.Channel.{Channel}
 use Rattle.chan_replayer.specs.trace_model.declared.channel.Dir.{Dir}
 use Rattle.chan_replayer.specs.trace_model.declared.channel.Dir.TheVariants.{Inward, Outward}
 use Rattle.chan_replayer.specs.trace_model.declared.event.Kind.TheVariants.{End}
+use Rattle.chan_replayer.specs.trace_model.declared.packet.TheConstants.{MOST_CYCLES}
 use Rattle.chan_replayer.specs.trace_model.declared.row.Offers.{Offers}
 use Rattle.chan_replayer.specs.trace_model.declared.row.Row.{Row}
 use Rattle.chan_replayer.specs.trace_model.Recording.{row_does}
@@ -43,7 +44,7 @@ use Rattle.shim_trees.specs.Wrapped.{wrapped}
 use Rattle.shim_design.proofs.Elements.{Has}
 use Rattle.shim_step.specs.Wrapped.{IsWrapped, Counts, counter_name}
 use Rattle.shim_step.specs.Ports.{HasContent, HasFedContent, HasFeed, content_base}
-use Rattle.shim_step.specs.Replaying.{MOST_CYCLES, Replays, ReplaysRows}
+use Rattle.shim_step.specs.Replaying.{Replays, ReplaysRows}
 use Rattle.shim_step.proofs.Lists.{has_each}
 use Rattle.shim_step.proofs.Files as files
 use Rattle.shim_step.proofs.Stand.{HasNet}
@@ -107,7 +108,7 @@ module _ {f : FileOf ℕ} {a : Map} {m : ModuleOf ℕ} {d : Design} (w : IsWrapp
   room : n < 2 ^ 64
   room = (let few = w.mapped.table.few in omega (arith, few))
 
-  module _ (rows : List Row) (short : length rows ≤ MOST_CYCLES) (counts : Counts a rows s) (feed : Feed) (over : IsFeedOver a.channels feed)
+  module _ (fresh : Bool) (rows : List Row) (short : length rows ≤ MOST_CYCLES) (counts : Counts a rows s) (feed : Feed) (over : IsFeedOver a.channels feed)
       (on : HasFeed a feed v) where
     most : (j : ℕ) → done rows j + 1 < 2 ^ 32
     most j = (let le = count_by-le-length (row_does End j) rows in omega (arith, le, short))
@@ -132,10 +133,10 @@ module _ {f : FileOf ℕ} {a : Map} {m : ModuleOf ℕ} {d : Design} (w : IsWrapp
     below = (let some = pow_pos (length a.channels) in omega (arith, some))
 
     abbrev first : Row
-    first = row_of a before offers gates []
+    first = row_of a fresh before offers gates []
 
     first_carries : (c : ℕ) (x : Channel) → slice_get a.channels c ≡ Some x → CarriesOn a.channels offers first c x.dir
-    first_carries c x at = row-carries d a w.mapped before offers are gates [] (no_outputs d) c x at
+    first_carries c x at = row-carries d a w.mapped fresh before offers are gates [] (no_outputs d) c x at
 
     module _ (c : ℕ) (x : Channel) (at : slice_get a.channels c ≡ Some x) where
       within : c < n
@@ -181,7 +182,7 @@ module _ {f : FileOf ℕ} {a : Map} {m : ModuleOf ℕ} {d : Design} (w : IsWrapp
     }
 
     abbrev row : Row
-    row = cycle.row w round settled small on.held.clock before offers are gates below carry
+    row = cycle.row w round settled small on.held.clock fresh before offers are gates below carry
 
     abbrev out : List ℕ
     out = outputs d (cycle.inner w round settled small on.held.clock)
@@ -228,13 +229,13 @@ module _ {f : FileOf ℕ} {a : Map} {m : ModuleOf ℕ} {d : Design} (w : IsWrapp
       }
 
       carried_here : CarriesOn a.channels offers row c x.dir
-      carried_here = cycle.carried w round settled small on.held.clock before offers are gates below carry c x at
+      carried_here = cycle.carried w round settled small on.held.clock fresh before offers are gates below carry c x at
 
       here : OnChannel c x.dir x.widths
       here =
-          (let p = cycle.plug_here w round settled small on.held.clock before offers are gates below carry c x at in
+          (let p = cycle.plug_here w round settled small on.held.clock fresh before offers are gates below carry c x at in
           on_channel p.plug p.at x.dir refl p.is (on.content c x at) carried_here
-          (cycle.shows_here w round settled small on.held.clock before offers are gates below carry c x at))
+          (cycle.shows_here w round settled small on.held.clock fresh before offers are gates below carry c x at))
 
       -- whether the next event is there and covered
       was : (j : ℕ) → j < n → s.nets (counter_name c j) ≡ done rows j
@@ -282,8 +283,8 @@ module _ {f : FileOf ℕ} {a : Map} {m : ModuleOf ℕ} {d : Design} (w : IsWrapp
 
     replays : Replays f a d T s v rows feed row
     replays =
-        let marked = cycle.marked w round settled small on.held.clock before offers are gates below carry in
-        let is = cycle.is_shown w round settled small on.held.clock before offers are gates below carry in
+        let marked = cycle.marked w round settled small on.held.clock fresh before offers are gates below carry in
+        let is = cycle.is_shown w round settled small on.held.clock fresh before offers are gates below carry in
         record {
           shown = record {
             over = is.over;
@@ -300,7 +301,7 @@ module _ {f : FileOf ℕ} {a : Map} {m : ModuleOf ℕ} {d : Design} (w : IsWrapp
             pop = λ c x at. pop c x at;
           };
           next = λ after goes. (
-            cycle.goes_to w round settled small on.held.clock before offers are gates below carry after goes,
+            cycle.goes_to w round settled small on.held.clock fresh before offers are gates below carry after goes,
             (λ c x at j l.
                 top.counter_is w c x at settled (done rows) (λ j l. few j) (was c x at) (has row.ends)
                 (λ j l. (let y = channel-at a.channels j l in pop j y.0 y.1 ∙ ap truth (sym (marked.ends j))))
@@ -310,14 +311,15 @@ module _ {f : FileOf ℕ} {a : Map} {m : ModuleOf ℕ} {d : Design} (w : IsWrapp
         }
 
 pub replays_rows : ReplaysRows
-replays_rows f a m d w T s pins v h rows short counts feed over on =
+replays_rows f a m d w T s pins v h rows short counts feed over on fresh =
     let same : T ≡ replay_top a m.ports =
     files.top_is w replay_name T (replay_top a m.ports) h.named (files.replay_there w) refl in
     let settled : IsSettled (wrapped f a).modules (replay_top a m.ports) s pins v =
     subst (λ (t : ModuleOf ℕ). IsSettled (wrapped f a).modules t s pins v) same h.settled in
     let narrow : AreNarrow (wrapped f a).modules (replay_top a m.ports) s.words =
     subst (λ (t : ModuleOf ℕ). AreNarrow (wrapped f a).modules t s.words) same h.narrow in (
-      row w settled narrow rows short counts feed over on,
-      subst (λ (t : ModuleOf ℕ). Replays f a d t s v rows feed (row w settled narrow rows short counts feed over on)) (sym same)
-          (replays w settled narrow rows short counts feed over on),
+      row w settled narrow fresh rows short counts feed over on,
+      refl,
+      subst (λ (t : ModuleOf ℕ). Replays f a d t s v rows feed (row w settled narrow fresh rows short counts feed over on)) (sym same)
+          (replays w settled narrow fresh rows short counts feed over on),
     )

@@ -9,6 +9,7 @@ use Rattle.net_design.specs.Settled as design
 use Rattle.net_order.specs.Order.{IsOrder}
 use Rattle.shim_design.specs.vlog_meaning.Names.{Full, State}
 use Rattle.chan_replayer.specs.trace_model.declared.row.Offers.{Offers}
+use Rattle.chan_replayer.specs.trace_model.declared.packet.TheConstants.{MOST_CYCLES}
 use Rattle.chan_replayer.specs.trace_model.declared.row.Row.{Row}
 use Rattle.chan_replayer.specs.trace_model.Row.{AreOffers}
 use Rattle.chan_replayer.specs.chan_map.declared.pins.Map.{Map}
@@ -23,7 +24,7 @@ use Rattle.shim_trees.specs.Wrapped.{wrapped}
 use Rattle.shim_step.specs.Wrapped.{IsWrapped, Flies, Counts}
 use Rattle.shim_step.specs.Ports.{HasOffers, HasFeed}
 use Rattle.shim_step.specs.Recording.{own_state, IsCycleOf, Records}
-use Rattle.shim_step.specs.Replaying.{MOST_CYCLES, Replays}
+use Rattle.shim_step.specs.Replaying.{Replays}
 
 -- ---- in state s the design settles in at most one way
 abbrev pub SettlesOnce : Design → Values → Type 0
@@ -37,17 +38,17 @@ StatesSettleOnce = (d : Design) → HasOneMap d → (s : Values) → IsState d s
 abbrev pub OrderedSettleOnce : Type 0
 OrderedSettleOnce = (d : Design) (order : List ℕ) → IsLawful d → IsOrder d order → (s : Values) → SettlesOnce d s
 
--- ---- one row
+-- ---- one row of each mark
 -- that monitors fill, for these offers and gates
 abbrev pub OneRecordedRow : Type 0
 OneRecordedRow = (d : Design) (a : Map) → IsMapOf d a → (s : Values) → SettlesOnce d s
     → (before : Option Row) (offers : Offers) (gates : ℕ) (x y : Row)
-    → monitors.IsShown d a s before offers gates x → monitors.IsShown d a s before offers gates y → x ≡ y
+    → x.fresh ≡ y.fresh → monitors.IsShown d a s before offers gates x → monitors.IsShown d a s before offers gates y → x ≡ y
 
 -- that replayers fill, under this feed
 abbrev pub OneReplayedRow : Type 0
 OneReplayedRow = (d : Design) (a : Map) → IsMapOf d a → (s : Values) → SettlesOnce d s → (rows : List Row) (feed : Feed) (x y : Row)
-    → replayers.IsShown d a s rows feed x → replayers.IsShown d a s rows feed y → x ≡ y
+    → x.fresh ≡ y.fresh → replayers.IsShown d a s rows feed x → replayers.IsShown d a s rows feed y → x ≡ y
 
 -- ---- on the ports
 -- whatever row monitors fill, the top that records shows it

@@ -1,5 +1,5 @@
 -- Lock step of `vidi_record_top`: in each cycle it does what monitors round the design do.
-use Rattle.std.specs.Prelude.{◌≡◌, ℕ, ◌<◌, ◌^◌, true, List, length, Option, None, Some}
+use Rattle.std.specs.Prelude.{◌≡◌, ℕ, ◌<◌, ◌^◌, Bool, true, List, length, Option, None, Some}
 use Rattle.vlog_tree.specs.Tree.{ModuleOf, FileOf}
 use Rattle.net_design.specs.declared.design.Design.{Design}
 use Rattle.net_design.specs.declared.values.Values.{Values}
@@ -42,13 +42,13 @@ pub record Records (f : FileOf ℕ) (a : Map) (d : Design) (top : ModuleOf ℕ) 
   pub next : (after : State) → IsNext (wrapped f a).modules top s v after
       → IsStep d a (own_state d s) row (own_state d after) × Flies a (Some row) after
 
--- for all offers and gates there is such a row
+-- for all offers and gates there is such a row, with either mark
 abbrev pub RecordsRows : Type 0
 RecordsRows = (f : FileOf ℕ) (a : Map) (m : ModuleOf ℕ) (d : Design) → IsWrapped f a m d
     → (top : ModuleOf ℕ) (s : State) (pins : List ℕ) (v : Full → ℕ) → IsCycleOf (wrapped f a) record_name top s pins v
     → (before : Option Row) → Flies a before s
     → (offers : Offers) → AreOffers a.channels offers → (gates : ℕ) → gates < 2 ^ length a.channels → HasOffers a offers gates v
-    → (row : Row) × Records f a d top s v before offers gates row
+    → (fresh : Bool) → (row : Row) × (row.fresh ≡ fresh) × Records f a d top s v before offers gates row
 
 -- in a reset cycle the design's pins are those of one, and afterwards nothing is in flight
 abbrev pub RecordsResets : Type 0

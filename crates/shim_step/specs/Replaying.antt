@@ -1,11 +1,12 @@
 -- Lock step of `vidi_replay_top`: in each cycle it does what replayers round the design do.
-use Rattle.std.specs.Prelude.{◌≡◌, ℕ, ◌≤◌, true, List, [], ◌∷◌, ◌++◌, length}
+use Rattle.std.specs.Prelude.{◌≡◌, ℕ, ◌≤◌, Bool, true, List, [], ◌∷◌, ◌++◌, length}
 use Rattle.vlog_tree.specs.Tree.{ModuleOf, FileOf}
 use Rattle.net_design.specs.declared.design.Design.{Design}
 use Rattle.net_design.specs.Settled.{initial}
 use Rattle.shim_design.specs.vlog_meaning.Names.{Full, State}
 use Rattle.shim_design.specs.vlog_meaning.Next.{IsNext, IsInitial}
 use Rattle.shim_design.specs.flat_parts.Laws.{IsTop}
+use Rattle.chan_replayer.specs.trace_model.declared.packet.TheConstants.{MOST_CYCLES}
 use Rattle.chan_replayer.specs.trace_model.declared.row.Row.{Row}
 use Rattle.chan_replayer.specs.chan_map.declared.pins.Map.{Map}
 use Rattle.chan_replayer.specs.run_model.Pins.{silent, ArePins}
@@ -21,10 +22,6 @@ use Rattle.shim_step.specs.Wrapped.{IsWrapped, DUT, Counts}
 use Rattle.shim_step.specs.Ports.{HasFeed, HasNoFeed, ShowsReplay}
 use Rattle.shim_step.specs.Recording.{own_state, IsCycleOf}
 
--- a replay has at most so many cycles before each, so that a counter's 32 bits hold the completions
-abbrev pub MOST_CYCLES : ℕ
-MOST_CYCLES = 50000
-
 -- the row is what replayers round the design fill after these rows, under this feed; the outputs and wires show it; the clock commits it,
 -- and then the counters have its completions too
 pub record Replays (f : FileOf ℕ) (a : Map) (d : Design) (top : ModuleOf ℕ) (s : State) (v : Full → ℕ) (rows : List Row) (feed : Feed)
@@ -34,13 +31,13 @@ pub record Replays (f : FileOf ℕ) (a : Map) (d : Design) (top : ModuleOf ℕ) 
   pub next : (after : State) → IsNext (wrapped f a).modules top s v after
       → IsStep d a (own_state d s) row (own_state d after) × Counts a (rows ++ row ∷ []) after
 
--- for all feeds there is such a row
+-- for all feeds there is such a row, with either mark, after at most so many others that the 32 bits of a counter hold the completions
 abbrev pub ReplaysRows : Type 0
 ReplaysRows = (f : FileOf ℕ) (a : Map) (m : ModuleOf ℕ) (d : Design) → IsWrapped f a m d
     → (top : ModuleOf ℕ) (s : State) (pins : List ℕ) (v : Full → ℕ) → IsCycleOf (wrapped f a) replay_name top s pins v
     → (rows : List Row) → length rows ≤ MOST_CYCLES → Counts a rows s
     → (feed : Feed) → IsFeedOver a.channels feed → HasFeed a feed v
-    → (row : Row) × Replays f a d top s v rows feed row
+    → (fresh : Bool) → (row : Row) × (row.fresh ≡ fresh) × Replays f a d top s v rows feed row
 
 -- in a reset cycle the design's pins are those of one, and afterwards nothing is counted
 abbrev pub ReplaysResets : Type 0

@@ -13,7 +13,7 @@ pub fn recording_steps()
     ensures begin { RecordsBegin }
 {}
 
-/// In each cycle of a wrapped file with the top that replays, after at most 50,000 others since a reset, whatever the feed on its ports,
+/// In each cycle of a wrapped file with the top that replays, after at most `MOST_CYCLES` others since a reset, whatever the feed on its ports,
 /// the outputs and wires show the row that replayers round the design fill, the design makes its step, and the counters have the
 /// completions. So in reset cycles, in which no replayer has a next event, and in the initial state.
 pub fn replaying_steps()
@@ -23,7 +23,7 @@ pub fn replaying_steps()
 {}
 
 /// Where a design settles in at most one way, the row that monitors round it fill for given offers and gates, after a given row, is one
-/// row, all of its parts determined, and so is the row that replayers round it fill under a given feed, after given rows. A design with one
+/// row, all of its parts but its mark determined, and so is the row that replayers round it fill under a given feed, after given rows. A design with one
 /// settled map settles so in each of its states, and a lawful one whose drivers have an order in whatever state.
 pub fn one_shown_row()
     ensures recorded { OneRecordedRow }

@@ -14,6 +14,7 @@ use Rattle.vlog_tree.specs.Shape.{level, IsGoodName, IsGoodExpr, IsGoodOption, A
 use Rattle.chan_map.specs.trace_model.declared.channel.Channel.{Channel}
 use Rattle.chan_map.specs.trace_model.declared.channel.Dir.{Dir}
 use Rattle.chan_map.specs.trace_model.declared.channel.Dir.TheVariants.{Inward, Outward}
+use Rattle.chan_map.specs.trace_model.declared.packet.TheConstants.{MOST_CHANNELS}
 use Rattle.chan_map.specs.declared.pins.Map.{Map}
 use Rattle.chan_map.specs.declared.pins.Pin.{Pin}
 use Rattle.chan_map.specs.declared.pins.Plug.{Plug}
@@ -175,7 +176,7 @@ n_name j small = letter_name 110 j refl small
 done_name : (j : ℕ) → IsSmall j → IsGoodName (numbered (codes "d") j)
 done_name j small = letter_name 100 j refl small
 
-replayer_ports_good : (count : ℕ) (dir : Dir) (widths : List ℕ) → count ≤ 32 → IsFew widths
+replayer_ports_good : (count : ℕ) (dir : Dir) (widths : List ℕ) → count ≤ MOST_CHANNELS → IsFew widths
     → AllByRecursion IsGoodPort (replayer_ports count dir widths)
 replayer_ports_good count dir widths limit few = (
   good_bit _ clk_name,
@@ -210,7 +211,7 @@ counting_good j (suc count) room =
       counting_good (j + 1) count (omega (arith, room)),
     )
 
-shown_items_good : (count : ℕ) (dir : Dir) (widths : List ℕ) → count ≤ 32 → IsFew widths
+shown_items_good : (count : ℕ) (dir : Dir) (widths : List ℕ) → count ≤ MOST_CHANNELS → IsFew widths
     → AllByRecursion IsGoodItem (shown_items count dir widths)
 shown_items_good count Inward widths limit few = (
   good_assign (codes "kv") (covering 0 count (net (codes "more"))) kv_name (covering_good 0 count (net (codes "more")) (omega (arith, limit)) (omega arith)
@@ -224,7 +225,7 @@ shown_items_good count Outward widths limit few = (
   (assign_both (codes "pop") (codes "sv") (codes "sr") pop_port sv_name sr_name, tt),
 )
 
-replayer_items_good : (count : ℕ) (dir : Dir) (widths : List ℕ) → count ≤ 32 → IsFew widths
+replayer_items_good : (count : ℕ) (dir : Dir) (widths : List ℕ) → count ≤ MOST_CHANNELS → IsFew widths
     → AllByRecursion IsGoodItem (replayer_items count dir widths)
 replayer_items_good count dir widths limit few =
     each_append IsGoodItem (upto (λ j. reg (numbered (codes "c") j) 32) 0 count) _
@@ -233,7 +234,7 @@ replayer_items_good count dir widths limit few =
     (each_append IsGoodItem (shown_items count dir widths) _ (shown_items_good count dir widths limit few)
     (good_at_clock (BeginStmt (counting 0 count)) (counting_good 0 count (omega (arith, limit))), tt))
 
-pub replayer_good : (count n : ℕ) (c : Channel) → count ≤ 32 → IsSmall n → IsFewChannel c → IsGoodModule (replayer count n c)
+pub replayer_good : (count n : ℕ) (c : Channel) → count ≤ MOST_CHANNELS → IsSmall n → IsFewChannel c → IsGoodModule (replayer count n c)
 replayer_good count n c limit small few = (
   numbered_name (codes "vidi_q_") n refl refl small,
   tt,
@@ -281,7 +282,7 @@ tied_linked pin [] = tt
 tied_linked pin (x ∷ xs) = ((λ good. tied_name (pin x).name good), tied_linked pin xs)
 
 links_good : (valid ready : Name) (m : Map) → ((n : ℕ) → IsSmall n → IsGoodName (numbered valid n))
-    → ((n : ℕ) → IsSmall n → IsGoodName (numbered ready n)) → length m.channels ≤ 32 → AllByRecursion IsFewPlug m.plugs
+    → ((n : ℕ) → IsSmall n → IsGoodName (numbered ready n)) → length m.channels ≤ MOST_CHANNELS → AllByRecursion IsFewPlug m.plugs
     → AllByRecursion IsGoodLink (links valid ready m)
 links_good valid ready m one other limit few = (
   (λ _. clk_name),
@@ -414,7 +415,7 @@ monitor_item_good n c small few =
 
 -- ---- the tops, for a map of few channels of few contents and narrow ties, round a design of this name and these ports
 pub record IsFewMap (m : Map) : Type 0 where
-  pub limit : length m.channels ≤ 32
+  pub limit : length m.channels ≤ MOST_CHANNELS
   pub channels : AllByRecursion IsFewChannel m.channels
   pub plugs : AllByRecursion IsFewPlug m.plugs
   pub ties : AllByRecursion IsNarrowTie m.ties
@@ -455,7 +456,7 @@ shown_good n Outward widths small few =
 need_name : (n j : ℕ) → IsSmall n → IsSmall j → IsGoodName (numbered_twice (codes "n_") n j)
 need_name n j one other = twice_name (codes "n_") n j refl refl one other
 
-replay_ports_good : (count : ℕ) → count ≤ 32 → (n : ℕ) (c : Channel) → IsSmall n → IsFewChannel c
+replay_ports_good : (count : ℕ) → count ≤ MOST_CHANNELS → (n : ℕ) (c : Channel) → IsSmall n → IsFewChannel c
     → AllByRecursion IsGoodPort (replay_ports count n c)
 replay_ports_good count limit n c small few = (
   good_bit _ (numbered_name (codes "more_") n refl refl small),
@@ -490,7 +491,7 @@ side_conns_good n Inward widths small few =
 side_conns_good n Outward widths small few =
     (good_conn _ _ sv_name (v_name n small), (good_conn _ _ sr_name (r_name n small), tt))
 
-replayer_conns_good : (count : ℕ) → count ≤ 32 → (n : ℕ) (c : Channel) → IsSmall n → IsFewChannel c
+replayer_conns_good : (count : ℕ) → count ≤ MOST_CHANNELS → (n : ℕ) (c : Channel) → IsSmall n → IsFewChannel c
     → AllByRecursion IsGoodConn (replayer_conns count n c.dir c.widths)
 replayer_conns_good count limit n c small few = (
   good_conn _ _ clk_name clk_name,
@@ -507,7 +508,7 @@ replayer_conns_good count limit n c small few = (
   ),
 )
 
-replayer_item_good : (count : ℕ) → count ≤ 32 → (n : ℕ) (c : Channel) → IsSmall n → IsFewChannel c → IsGoodItem (replayer_item count n c)
+replayer_item_good : (count : ℕ) → count ≤ MOST_CHANNELS → (n : ℕ) (c : Channel) → IsSmall n → IsFewChannel c → IsGoodItem (replayer_item count n c)
 replayer_item_good count limit n c small few =
     good_instance _ _ (replayer_conns count n c.dir c.widths) (numbered_name (codes "vidi_q_") n refl refl small)
     (numbered_name (codes "q_") n refl refl small) (replayer_conns_good count limit n c small few)

@@ -1,6 +1,7 @@
 //! Whether two shells have the same rows, and how it is said.
 
 ghost use Rattle.std.specs.Prelude.{◌≤◌, IfOk};
+ghost use Rattle.shim_runs.specs.trace_model.declared.packet.TheConstants.{MOST_CYCLES};
 
 use shim_runs::report_text::{put, put_number};
 use shim_runs::trace_model::Row;
@@ -17,7 +18,7 @@ pub(crate) struct Course {
 
 /// The course that two words write.
 pub(crate) fn course_of(seed: &Text, cycles: &Text) -> Result<Course, Ended>
-    ensures { IfOk result (λ course. course.cycles ≤ 50000) }
+    ensures { IfOk result (λ course. course.cycles ≤ MOST_CYCLES) }
 {
     let cycles = cycles_of(cycles)?;
     match seed.as_str().parse::<u64>() {
@@ -39,7 +40,7 @@ pub(crate) fn other_of<'a>(design: &'a Text, rest: &'a [Text]) -> Result<&'a Tex
 pub(crate) fn are_same(a: &Row, b: &Row) -> bool {
     let masks = a.gates == b.gates && a.valids == b.valids && a.readies == b.readies;
     let events = a.starts == b.starts && a.ends == b.ends;
-    masks && events && a.contents.as_slice() == b.contents.as_slice()
+    a.fresh == b.fresh && masks && events && a.contents.as_slice() == b.contents.as_slice()
 }
 
 /// `alike CYCLES`, or `differs at CYCLE` with the first cycle in which the rows aren't the same.

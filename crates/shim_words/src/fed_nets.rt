@@ -5,6 +5,7 @@ ghost use Rattle.vlog_tree.specs.Tree.{FileOf};
 ghost use Rattle.vlog_tree.specs.Plain.{plain};
 ghost use Rattle.net_design.specs.declared.design.Design.{Design as OneDesign};
 ghost use Rattle.shim_runs.specs.trace_model.declared.row.Row.{Row as OneRow};
+ghost use Rattle.shim_runs.specs.trace_model.declared.packet.TheConstants.{MOST_CYCLES};
 ghost use Rattle.shim_runs.specs.trace_model.Channel.{IsTable};
 ghost use Rattle.shim_runs.specs.shim_cosim.Top.{IsWrapOf};
 
@@ -13,7 +14,7 @@ use shim_runs::chan_map::Map;
 use shim_runs::chan_replayer::ReplayShell;
 use shim_runs::net_sim::Sim;
 use shim_runs::shim_cosim::{RerunShell, Rewrapped};
-use shim_runs::trace_model::row_over;
+use shim_runs::trace_model::{MOST_CYCLES, row_over};
 use shim_runs::vidi_io::{Shelf, Text};
 use shim_runs::vidi_lines::Line;
 use shim_runs::{Ended, Stage, lines_in, put_net, stage_in};
@@ -48,7 +49,7 @@ fn fed_lines(
     let Some((last, before)) = lines.split_last() else {
         return Err(Ended::Usage);
     };
-    if before.len() > 50_000 {
+    if before.len() > MOST_CYCLES as usize {
         return Err(Ended::Usage);
     }
     let mut shell = Rewrapped::new(alloc, wrapped, map)?;
@@ -66,7 +67,7 @@ fn last_nets(
 ) -> Result<Vec<u8>, Ended>
     requires table { IsTable map.now.channels }
     requires mapped { ⟦<RerunShell<'static, Sim> as ReplayShell>⟧.map shell.old ≡ map.now }
-    requires few { length before.now ≤ 50000 }
+    requires few { length before.now ≤ MOST_CYCLES }
 {
     shell.reset();
     go_through(alloc, shell, map, before)?;
@@ -92,7 +93,7 @@ fn drive<S: ReplayShell>(alloc: Global, shell: &mut S, map: &Map, line: &Line) -
 fn cycle<S: ReplayShell>(alloc: Global, shell: &mut S, map: &Map, line: &Line) -> Result<(), Ended>
     requires table { IsTable map.now.channels }
     requires mapped { S.map shell.old ≡ map.now }
-    requires few { S.cycles shell.old < 50000 }
+    requires few { S.cycles shell.old < MOST_CYCLES }
     ensures mapped { S.map shell.new ≡ S.map shell.old }
     ensures cycles { S.cycles shell.new ≤ S.cycles shell.old + 1 }
 {
@@ -110,7 +111,7 @@ fn go_through<S: ReplayShell>(
 ) -> Result<(), Ended>
     requires table { IsTable map.now.channels }
     requires mapped { S.map shell.old ≡ map.now }
-    requires few { S.cycles shell.old + length lines.now ≤ 50000 }
+    requires few { S.cycles shell.old + length lines.now ≤ MOST_CYCLES }
     ensures mapped { S.map shell.new ≡ S.map shell.old }
 {
     for line in lines {

@@ -4,6 +4,7 @@ ghost use Rattle.std.specs.Prelude.{◌≡◌, ◌≤◌, ◌<◌, ◌+◌, ℕ,
 ghost use Rattle.vlog_tree.specs.Tree.{FileOf};
 ghost use Rattle.vlog_tree.specs.Plain.{plain};
 ghost use Rattle.net_design.specs.declared.design.Design.{Design as OneDesign};
+ghost use Rattle.shim_runs.specs.trace_model.declared.packet.TheConstants.{MOST_CYCLES};
 ghost use Rattle.shim_runs.specs.trace_model.Channel.{IsTable};
 ghost use Rattle.shim_runs.specs.run_model.Building.{PortsAreNets};
 ghost use Rattle.shim_runs.specs.run_model.MapOf.{IsMapOf};
@@ -54,7 +55,7 @@ fn said_round<S: Shelf>(
     wrapped: &File,
     course: Course,
 ) -> Result<Vec<u8>, Ended>
-    requires few { course.cycles ≤ 50000 }
+    requires few { course.cycles ≤ MOST_CYCLES }
     requires wrapped { (f : FileOf ℕ) × (d : OneDesign) × IsWrapOf (plain wrapped.now) f its.now d }
 {
     let Stage { sim, map, .. } = stage_in(alloc, shelf, design.as_str(), map.as_str())?;
@@ -70,7 +71,7 @@ fn said_of<B: Block + Drop>(
     wrapped: &File,
     course: Course,
 ) -> Result<Vec<u8>, Ended>
-    requires few { course.cycles ≤ 50000 }
+    requires few { course.cycles ≤ MOST_CYCLES }
     requires nets { PortsAreNets (B.design block) }
     requires mapped { IsMapOf (B.design block) map.now }
     requires wrapped { (f : FileOf ℕ) × (d : OneDesign) × IsWrapOf (plain wrapped.now) f its.now d }
@@ -89,7 +90,7 @@ fn said_beside<S: ReplayShell>(
     course: Course,
 ) -> Result<Vec<u8>, Ended>
     requires table { IsTable map.now.channels }
-    requires few { course.cycles ≤ 50000 }
+    requires few { course.cycles ≤ MOST_CYCLES }
     requires machines { S.map machines.old ≡ map.now }
     requires wrapped { (f : FileOf ℕ) × (d : OneDesign) × IsWrapOf (plain wrapped.now) f its.now d }
 {
@@ -111,7 +112,7 @@ fn said_alike<S: ReplayShell, T: ReplayShell>(
     course: Course,
 ) -> Result<Vec<u8>, Ended>
     requires table { IsTable channels.now }
-    requires few { course.cycles ≤ 50000 }
+    requires few { course.cycles ≤ MOST_CYCLES }
     requires one { (S.map one.old).channels ≡ channels.now }
     requires other { (T.map other.old).channels ≡ channels.now }
 {
@@ -124,7 +125,7 @@ fn cycle<S: ReplayShell>(shell: &mut S, channels: &Channels, feed: &Feed, row: &
     requires map { (S.map shell.old).channels ≡ channels.now }
     requires feed { IsFeedOver channels.now feed.now }
     requires places { HasPlaces channels.now row.old }
-    requires few { S.cycles shell.old < 50000 }
+    requires few { S.cycles shell.old < MOST_CYCLES }
     ensures places { HasPlaces channels.now row.new }
     ensures map { S.map shell.new ≡ S.map shell.old }
     ensures cycles { S.cycles shell.new ≡ S.cycles shell.old + 1 }
@@ -169,7 +170,7 @@ fn differ_at<S: ReplayShell, T: ReplayShell>(
 ) -> Result<Option<u32>, Memory>
     requires some { 1 ≤ length channels.now }
     requires few { length channels.now ≤ 128 }
-    requires short { course.cycles ≤ 50000 }
+    requires short { course.cycles ≤ MOST_CYCLES }
     requires one { (S.map one.old).channels ≡ channels.now }
     requires other { (T.map other.old).channels ≡ channels.now }
 {

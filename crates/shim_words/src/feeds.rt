@@ -2,6 +2,7 @@
 
 ghost use Rattle.std.specs.Prelude.{◌≤◌, IfOk, length};
 ghost use Rattle.shim_runs.specs.chan_replayer.Feed.{IsFeedOver};
+ghost use Rattle.shim_runs.specs.trace_model.declared.packet.TheConstants.{MOST_CHANNELS};
 
 use shim_runs::Ended;
 use shim_runs::chan_replayer::{Feed, Needs};
@@ -38,7 +39,7 @@ fn needs_of(alloc: Global, numbers: &[u128]) -> Result<Needs, Ended> {
 
 /// The feed of a line, over these channels.
 pub(crate) fn feed_of(alloc: Global, line: &Line, channels: &Channels) -> Result<Feed, Ended>
-    requires { length channels.now ≤ 32 }
+    requires { length channels.now ≤ MOST_CHANNELS }
     ensures { IfOk result (IsFeedOver channels.now) }
 {
     let words = line.words.as_slice();
@@ -59,10 +60,11 @@ pub(crate) fn checked(
     needs: Needs,
     contents: Numbers,
 ) -> Result<Feed, Ended>
-    requires { length channels.now ≤ 32 }
+    requires { length channels.now ≤ MOST_CHANNELS }
     ensures { IfOk result (IsFeedOver channels.now) }
 {
     let row = Row {
+        fresh: false,
         gates: 0,
         valids: more,
         readies: 0,

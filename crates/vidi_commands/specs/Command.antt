@@ -2,7 +2,7 @@
 use Rattle.std.specs.Prelude.{◌≡◌, ◌≢◌, ℕ, ◌≤◌, List, [], ◌∷◌, Some, codes}
 use Rattle.wrap_command.specs.vidi_lines.Number.{number_of}
 use Rattle.sample_command.specs.sample_gen.declared.generate.TheConstants.{LARGEST}
-use Rattle.sample_command.specs.script_text.declared.script.TheConstants.{MOST_CYCLES}
+use Rattle.wrap_command.specs.trace_model.declared.packet.TheConstants.{MOST_CYCLES}
 use Rattle.vidi_commands.specs.declared.command.Command as declared
 use Rattle.vidi_commands.specs.declared.command.Command.TheVariants as variants
 

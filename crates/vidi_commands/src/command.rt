@@ -4,7 +4,7 @@ ghost use Rattle.std.specs.Prelude.{ℕ, [], ◌∷◌, MatchOption, codes};
 ghost use Rattle.vidi_commands.specs.Command as spec;
 
 use sample_command::sample_gen::LARGEST;
-use sample_command::script_text::MOST_CYCLES;
+use sample_command::trace_code::trace_model::MOST_CYCLES;
 use wrap_command::vidi_io::Words;
 use wrap_command::vidi_lines::number;
 
@@ -222,7 +222,7 @@ fn cycles_of(word: &str) -> Option<u32>
     ensures { MatchOption result ((n : ℕ) → ¬ spec.IsCycles word.now n) (λ n. spec.IsCycles word.now n) }
 {
     let cycles = number(word.as_bytes())?;
-    if cycles < 1 || cycles > MOST_CYCLES {
+    if cycles < 1 || cycles > u128::from(MOST_CYCLES) {
         return None;
     }
     Some(cycles as u32)

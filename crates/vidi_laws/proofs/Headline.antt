@@ -6,7 +6,7 @@ use Rattle.vidi_commands.specs.vidi_io.Shelf.{Files}
 use Rattle.vidi_commands.specs.trace_model.Recording.{trace_of}
 use Rattle.vidi_commands.specs.trace_model.declared.trace.Trace.{Trace}
 use Rattle.vidi_commands.specs.trace_code.Encoding.{encode, HasEncoding}
-use Rattle.vidi_commands.specs.script_text.declared.script.TheConstants.{MOST_CYCLES}
+use Rattle.vidi_commands.specs.trace_model.declared.packet.TheConstants.{MOST_CYCLES}
 use Rattle.vidi_commands.specs.script_text.ScriptOffer.{script_offer}
 use Rattle.vidi_commands.specs.script_text.declared.stalls.Stalls.{Stalls}
 use Rattle.vidi_commands.proofs.env_script_lemmas.Lasting.{script-lasts}

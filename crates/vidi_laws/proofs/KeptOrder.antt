@@ -14,7 +14,7 @@ use Rattle.vidi_commands.specs.trace_model.declared.channel.Channel.{Channel}
 use Rattle.vidi_commands.specs.trace_model.declared.channel.Dir.{Dir}
 use Rattle.vidi_commands.specs.trace_model.declared.channel.Dir.TheVariants.{Inward, Outward}
 use Rattle.vidi_commands.specs.trace_model.declared.event.Kind.{Kind}
-use Rattle.vidi_commands.specs.trace_model.declared.event.Kind.TheVariants.{Start, End}
+use Rattle.vidi_commands.specs.trace_model.declared.event.Kind.TheVariants.{Start, End, Reset}
 use Rattle.vidi_commands.specs.trace_model.declared.packet.Packet.{Packet}
 use Rattle.vidi_commands.specs.trace_model.Clock.{clock, Covers}
 use Rattle.vidi_commands.specs.trace_model.Counting.{IsNth}
@@ -117,8 +117,15 @@ each-keeps channels f (c ∷ cs) keeps =
 missing-keeps : (dir : Dir) (kind : Kind) → breaks_order dir (missing kind) ≡ false
 missing-keeps Inward Start = refl
 missing-keeps Inward End = refl
+missing-keeps Inward Reset = refl
 missing-keeps Outward Start = refl
 missing-keeps Outward End = refl
+missing-keeps Outward Reset = refl
+
+-- a finding is on a start or an end
+is_reset : Kind → Bool
+is_reset Reset = true
+is_reset kind = false
 
 module _ (channels : List Channel) (a b : List Packet) (order : AreInOrder channels a b) where
   -- ---- an event that replayers control
@@ -172,38 +179,40 @@ module _ (channels : List Channel) (a b : List Packet) (order : AreInOrder chann
         absurd (not-above 0 (marked (differing channels c a b)) (omega (arith, none)) holds)
     differs-keeps Outward is holds = refl
 
-    extra-keeps : (kind : Kind) (dir : Dir) → x.dir ≡ dir → nat_lt (count kind c a) (count kind c b) ≡ true
+    extra-keeps : (kind : Kind) (dir : Dir) → is_reset kind ≡ false → x.dir ≡ dir → nat_lt (count kind c a) (count kind c b) ≡ true
         → breaks_order dir (extra kind) ≡ false
-    extra-keeps Start Inward is holds =
+    extra-keeps Start Inward event is holds =
         absurd (not-above (count Start c a) (count Start c b) (none-extra Start c x at (controlled Inward Start is refl)) holds)
-    extra-keeps Start Outward is holds = refl
-    extra-keeps End Inward is holds = refl
-    extra-keeps End Outward is holds =
+    extra-keeps Start Outward event is holds = refl
+    extra-keeps End Inward event is holds = refl
+    extra-keeps End Outward event is holds =
         absurd (not-above (count End c a) (count End c b) (none-extra End c x at (controlled Outward End is refl)) holds)
+    extra-keeps Reset dir event is holds = absurd (false≢true (sym event))
 
-    early-keeps : (kind : Kind) (dir : Dir) → x.dir ≡ dir → nat_lt 0 (marked (early_marks (length channels) kind c a b)) ≡ true
-        → breaks_order dir (early kind) ≡ false
-    early-keeps Start Inward is holds =
+    early-keeps : (kind : Kind) (dir : Dir) → is_reset kind ≡ false → x.dir ≡ dir
+        → nat_lt 0 (marked (early_marks (length channels) kind c a b)) ≡ true → breaks_order dir (early kind) ≡ false
+    early-keeps Start Inward event is holds =
         let none = none-early Start c x at (controlled Inward Start is refl) in
         absurd (not-above 0 (marked (early_marks (length channels) Start c a b)) (omega (arith, none)) holds)
-    early-keeps Start Outward is holds = refl
-    early-keeps End Inward is holds = refl
-    early-keeps End Outward is holds =
+    early-keeps Start Outward event is holds = refl
+    early-keeps End Inward event is holds = refl
+    early-keeps End Outward event is holds =
         let none = none-early End c x at (controlled Outward End is refl) in
         absurd (not-above 0 (marked (early_marks (length channels) End c a b)) (omega (arith, none)) holds)
+    early-keeps Reset dir event is holds = absurd (false≢true (sym event))
 
-  only-keeps : (kind : Kind) (c : ℕ) → All (KeepsOrder channels) (only_one kind c a b)
-  only-keeps kind c =
+  only-keeps : (kind : Kind) → is_reset kind ≡ false → (c : ℕ) → All (KeepsOrder channels) (only_one kind c a b)
+  only-keeps kind event c =
       All-append (KeepsOrder channels) (found (nat_lt (count kind c b) (count kind c a)) c (missing kind) (count kind c b) 1)
       (found (nat_lt (count kind c a) (count kind c b)) c (extra kind) (count kind c a) 1)
       (found-keeps channels (nat_lt (count kind c b) (count kind c a)) c (missing kind) (count kind c b) 1
       (λ holds x at. missing-keeps x.dir kind))
       (found-keeps channels (nat_lt (count kind c a) (count kind c b)) c (extra kind) (count kind c a) 1
-      (λ holds x at. extra-keeps c x at kind x.dir refl holds))
+      (λ holds x at. extra-keeps c x at kind x.dir event refl holds))
 
-  earlies-keep : (kind : Kind) (c : ℕ) → All (KeepsOrder channels) (early_ones (length channels) kind c a b)
-  earlies-keep kind c = found-keeps channels (nat_lt 0 (marked (early_marks (length channels) kind c a b))) c (early kind) _ _
-      (λ holds x at. early-keeps c x at kind x.dir refl holds)
+  earlies-keep : (kind : Kind) → is_reset kind ≡ false → (c : ℕ) → All (KeepsOrder channels) (early_ones (length channels) kind c a b)
+  earlies-keep kind event c = found-keeps channels (nat_lt 0 (marked (early_marks (length channels) kind c a b))) c (early kind) _ _
+      (λ holds x at. early-keeps c x at kind x.dir event refl holds)
 
   channel-keeps : (c : ℕ) → All (KeepsOrder channels) (findings_on channels a b c)
   channel-keeps c =
@@ -213,9 +222,9 @@ module _ (channels : List Channel) (a b : List Packet) (order : AreInOrder chann
       let others = only_one End c a b ++ earlies in
       All-append P (different channels c a b) (only_one Start c a b ++ others)
       (found-keeps channels (nat_lt 0 (marked (differing channels c a b))) c Differs _ _ (λ holds x at. differs-keeps c x at x.dir refl holds))
-      (All-append P (only_one Start c a b) others (only-keeps Start c)
-      (All-append P (only_one End c a b) earlies (only-keeps End c)
-      (All-append P (early_ones (length channels) Start c a b) ends (earlies-keep Start c) (earlies-keep End c))))
+      (All-append P (only_one Start c a b) others (only-keeps Start refl c)
+      (All-append P (only_one End c a b) earlies (only-keeps End refl c)
+      (All-append P (early_ones (length channels) Start c a b) ends (earlies-keep Start refl c) (earlies-keep End refl c))))
 
   pub findings-keep : All (KeepsOrder channels) (flat_map (findings_on channels a b) (range_with_len 0 (length channels)))
   findings-keep = each-keeps channels (findings_on channels a b) (range_with_len 0 (length channels)) channel-keeps

@@ -1,5 +1,5 @@
 -- `record`: one answer, which leaves one trace.
-use Rattle.std.proofs.Common.{◌≡◌, ℕ, ◌≤◌, List, Option, None, Some, Ok, Err, inl, inr, length, sym, ap, subst, ◌∙◌, arith}
+use Rattle.std.proofs.Common.{◌≡◌, ℕ, ◌≤◌, false, List, Option, None, Some, Ok, Err, inl, inr, length, sym, ap, subst, ◌∙◌, arith}
 use Rattle.vidi_commands.specs.trace_model.declared.channel.Channel.{Channel}
 use Rattle.vidi_commands.specs.trace_model.declared.row.Row.{Row}
 use Rattle.vidi_commands.specs.trace_model.Recording.{packets_of, trace_of}
@@ -61,7 +61,7 @@ plan-path : (p q : Stalls) → SamePlan p q → plan_of q ≡ plan_of p
 plan-path p q same =
     let capacity = sym same.0 in
     let drains = sym same.1 in
-    λ i. record { capacity = capacity i; allowance = allowance_at (drains i) }
+    λ i. record { capacity = capacity i; allowance = allowance_at (drains i); resets = false }
 
 abbrev pub LeftAlike : Status → Status → List ℕ → List ℕ → Option Files → Option Files → Type 0
 LeftAlike a b x y left right = Alike a b x y × (left ≡ right)
@@ -190,7 +190,7 @@ module _ (laws : BenchLaws) where
       let theirs = (the-runs_alike b.device.design c.device.design same.device.ready.lawful same.device.designs b.device.map offers gates
       b.script.cycles others end).1 run' in
       one-end_of b.device.design b.device.map same.device.ready offers gates
-      (λ before are g h. one-set (sizes_of channels) (plan_of p) before (length before) g h)
+      (λ before are g h. one-set (sizes_of channels) (plan_of p) before (length before) false g h)
       b.script.cycles others rows end stop theirs run
 
   runs-once : (b c : Bench) (p : Stalls) → SameBench b c → (trace : List ℕ) (files : Files) (s t : Status) (x y : List ℕ)

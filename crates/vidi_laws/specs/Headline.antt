@@ -26,7 +26,7 @@ use Rattle.vidi_commands.specs.replay_run.declared.outcome.ReplayOutcome.TheVari
 use Rattle.vidi_commands.specs.replay_run.Replaying.{GoesInNoCircle}
 use Rattle.vidi_commands.specs.chan_map.declared.pins.Map.{Map}
 use Rattle.vidi_commands.specs.shim_trees.Wrapped.{wrapped}
-use Rattle.vidi_commands.specs.script_text.declared.script.TheConstants.{MOST_CYCLES}
+use Rattle.vidi_commands.specs.trace_model.declared.packet.TheConstants.{MOST_CYCLES}
 use Rattle.vidi_commands.specs.script_text.ScriptOffer.{script_offer}
 use Rattle.vidi_commands.specs.script_text.declared.stalls.Stalls.{Stalls}
 use Rattle.vidi_commands.specs.room_ledger.Gates.{used_at}
@@ -121,7 +121,7 @@ abbrev pub RecordingHidesNoGate : Type 0
 RecordingHidesNoGate = (design map script stalls : List ℕ) (files : Option Files) (b : Bench) (plan : Stalls)
     → IsPlanned design map script stalls files b plan → (rows : List Row) → IsRunOf (course_of b plan) rows
     → (t c : ℕ) (row : Row) → slice_get rows t ≡ Some row → c < length b.device.map.channels → has row.gates c ≡ false
-    → 0 < used_at (sizes_of b.device.map.channels) (plan_of plan) rows t
+    → 0 < used_at (sizes_of b.device.map.channels) (plan_of plan) rows t false
 
 -- in the run that `run` prints each transaction's content in the row of its completion is that of its start
 abbrev pub PrintedRunKeepsContents : Type 0

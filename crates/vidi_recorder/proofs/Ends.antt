@@ -10,7 +10,7 @@ use Rattle.env_script.specs.run_model.Laws.{OffersFit}
 use Rattle.env_script.specs.run_model.Played.{AreStable}
 use Rattle.room_ledger.specs.Ledger.{Ledger}
 use Rattle.chan_monitor.specs.Shell.{IsMapped}
-use Rattle.env_script.specs.script_text.declared.script.TheConstants.{MOST_CYCLES}
+use Rattle.trace_code.specs.trace_model.declared.packet.TheConstants.{MOST_CYCLES}
 use Rattle.vidi_io.specs.Sink.{AppendsSome}
 use Rattle.vidi_recorder.specs.declared.error.Outcome.{Outcome}
 use Rattle.vidi_recorder.specs.declared.error.Outcome.TheVariants.{Whole, Unstable}

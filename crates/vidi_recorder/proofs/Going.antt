@@ -17,7 +17,7 @@ use Rattle.trace_code.specs.Encoding.{encode, end_mark, header_bytes, row_bytes}
 use Rattle.trace_code.proofs.RowBytes.{row-length, no-row-packet}
 use Rattle.room_ledger.specs.Gates.{Plan, drained, left, row_len, used_at}
 use Rattle.room_ledger.specs.Laws.{MayFollow, StandsAfter}
-use Rattle.room_ledger.specs.Ledger.{Ledger, Emitted, Regranted, fresh}
+use Rattle.room_ledger.specs.Ledger.{Ledger, Emitted, Regranted, empty}
 use Rattle.room_ledger.specs.Reservation.{event_len}
 use Rattle.room_ledger.proofs.Following.{keeps-gates, same-len, used-front}
 use Rattle.vidi_io.specs.Sink.{AppendsSome}
@@ -28,10 +28,10 @@ use Rattle.vidi_recorder.proofs.Runs.{encode-is}
 
 -- ---- at the beginning
 pub going-first : (channels : List Channel) (plan : Plan) (first : Option (List ℕ)) (room : Ledger) (items header : List ℕ)
-    (told : Option (List ℕ)) → room ≡ fresh (sizes_of channels) plan.capacity → items ≡ [] → header ≡ header_bytes channels
+    (told : Option (List ℕ)) → room ≡ empty (sizes_of channels) plan.resets plan.capacity → items ≡ [] → header ≡ header_bytes channels
     → told ≡ append_known first header → Going channels plan first [] room items told 0
 going-first channels plan first room items header told r i h t = record {
-  stands = subst (StandsAfter (sizes_of channels) plan []) (sym r) (keeps-gates (sizes_of channels) plan).first;
+  stands = subst (StandsAfter (sizes_of channels) plan [] false) (sym r) (keeps-gates (sizes_of channels) plan).first;
   waits = ap length i ∙ ap (λ (l : Ledger). l.used) (sym r);
   bytes = header;
   told_is = t;
@@ -72,21 +72,21 @@ before-front sizes plan rows more zero l = refl
 before-front sizes plan rows more (suc t) l =
     ap (λ n. n + drained_after sizes plan (rows ++ more) t) (before-front sizes plan rows more t (omega arith))
     ∙ ap (λ n. drained_before sizes plan rows t + drained (plan.allowance t) (n + row_len sizes (slice_get (rows ++ more) t)))
-    (used-front sizes plan rows more t (omega arith))
-    ∙ ap (λ (o : Option Row). drained_before sizes plan rows t + drained (plan.allowance t) (used_at sizes plan rows t + row_len sizes o))
+    (used-front sizes plan rows more t false (omega arith))
+    ∙ ap (λ (o : Option Row). drained_before sizes plan rows t + drained (plan.allowance t) (used_at sizes plan rows t false + row_len sizes o))
     (slice_get-append_left rows more t (omega arith))
 
 after-push : (sizes : List ℕ) (plan : Plan) (rows : List Row) (row : Row) → drained_after sizes plan (rows ++ row ∷ []) (length rows)
-    ≡ drained (plan.allowance (length rows)) (used_at sizes plan rows (length rows) + event_len sizes row.starts row.ends)
+    ≡ drained (plan.allowance (length rows)) (used_at sizes plan rows (length rows) false + event_len sizes row.starts row.ends)
 after-push sizes plan rows row =
     ap (λ n. drained (plan.allowance (length rows)) (n + row_len sizes (slice_get (rows ++ row ∷ []) (length rows))))
-    (used-front sizes plan rows (row ∷ []) (length rows) (omega arith))
-    ∙ ap (λ (o : Option Row). drained (plan.allowance (length rows)) (used_at sizes plan rows (length rows) + row_len sizes o))
+    (used-front sizes plan rows (row ∷ []) (length rows) false (omega arith))
+    ∙ ap (λ (o : Option Row). drained (plan.allowance (length rows)) (used_at sizes plan rows (length rows) false + row_len sizes o))
     (slice_get-last rows row)
 
 before-push : (sizes : List ℕ) (plan : Plan) (rows : List Row) (row : Row)
     → drained_before sizes plan (rows ++ row ∷ []) (length (rows ++ row ∷ [])) ≡ drained_before sizes plan rows (length rows)
-    + drained (plan.allowance (length rows)) (used_at sizes plan rows (length rows) + event_len sizes row.starts row.ends)
+    + drained (plan.allowance (length rows)) (used_at sizes plan rows (length rows) false + event_len sizes row.starts row.ends)
 before-push sizes plan rows row =
     ap (drained_before sizes plan (rows ++ row ∷ [])) (length_push rows row ∙ add-one (length rows))
     ∙ ap (λ n. n + drained_after sizes plan (rows ++ row ∷ []) (length rows))
@@ -124,7 +124,7 @@ pub record Cycle (channels : List Channel) (plan : Plan) (rows : List Row) (row 
     (items mixed : List ℕ) : Type 0 where
   pub table : IsTable channels
   pub over : IsOver channels row
-  pub follows : MayFollow old (row_before rows (length rows)) row
+  pub follows : MayFollow old false (row_before rows (length rows)) row
   pub emitted : Emitted old row.starts row.ends mid
   pub put : mixed ≡ items ++ row_bytes channels row
 
@@ -134,10 +134,10 @@ module _ (channels : List Channel) (plan : Plan) (first : Option (List ℕ)) (ro
   abbrev n : ℕ
   n = drained (plan.allowance (length rows)) mid.used
 
-  used-is : mid.used ≡ used_at (sizes_of channels) plan rows (length rows) + event_len (sizes_of channels) row.starts row.ends
+  used-is : mid.used ≡ used_at (sizes_of channels) plan rows (length rows) false + event_len (sizes_of channels) row.starts row.ends
   used-is =
       cycle.emitted.used ∙ ap (λ k. k + event_len old.sizes row.starts row.ends) going.stands.used
-      ∙ ap (λ s. used_at (sizes_of channels) plan rows (length rows) + event_len s row.starts row.ends) going.stands.channels
+      ∙ ap (λ s. used_at (sizes_of channels) plan rows (length rows) false + event_len s row.starts row.ends) going.stands.channels
 
   pub mixed-long : length mixed ≡ mid.used
   mixed-long =
@@ -150,7 +150,7 @@ module _ (channels : List Channel) (plan : Plan) (first : Option (List ℕ)) (ro
       → rest ≡ drop n mixed → now ≡ append_known told (take n mixed) → more ≡ packets + cond (has_event row) 1 0
       → Going channels plan first (rows ++ row ∷ []) new rest now more
   going-on rest more again r t m = record {
-    stands = (keeps-gates (sizes_of channels) plan).next rows row old mid new going.stands cycle.follows cycle.emitted again;
+    stands = (keeps-gates (sizes_of channels) plan).next rows false row old mid new going.stands cycle.follows cycle.emitted again;
     waits = ap length r ∙ length-drop n mixed ∙ ap (λ k. k - n) mixed-long ∙ sym again.used;
     bytes = going.bytes ++ take n mixed;
     told_is = told-both first told now going.bytes (take n mixed) going.told_is t;
@@ -162,7 +162,7 @@ module _ (channels : List Channel) (plan : Plan) (first : Option (List ℕ)) (ro
         (length-take-le n mixed (let d = drained-within (plan.allowance (length rows)) mid.used in omega (arith, d, mixed-long)))
         ∙ (let a = going.out in
         let b = before-push (sizes_of channels) plan rows row in
-        let c : n ≡ drained (plan.allowance (length rows)) (used_at (sizes_of channels) plan rows (length rows)
+        let c : n ≡ drained (plan.allowance (length rows)) (used_at (sizes_of channels) plan rows (length rows) false
         + event_len (sizes_of channels) row.starts row.ends) = ap (drained (plan.allowance (length rows))) used-is in
         let z : length going.bytes + n ≡ length (header_bytes channels)
         + drained_before (sizes_of channels) plan (rows ++ row ∷ []) (length (rows ++ row ∷ [])) = omega (arith, a, b, c) in z);

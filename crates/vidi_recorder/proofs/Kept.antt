@@ -19,10 +19,10 @@ use Rattle.env_script.specs.run_model.Played.{all_up}
 use Rattle.env_script.specs.run_model.Run.{AllUp, IsRun}
 use Rattle.env_script.proofs.run_model_lemmas.Contents.{has-all, same-masks_below}
 use Rattle.env_script.proofs.run_model_lemmas.RunLaws.{StayUp, run-keeps, kept}
-use Rattle.room_ledger.specs.Gates.{Plan, used_at, keeps, AreGates}
-use Rattle.room_ledger.specs.Reservation.{need, AreRaised}
+use Rattle.room_ledger.specs.Gates.{Plan, charged_at, keeps, used_at, AreGates}
+use Rattle.room_ledger.specs.Reservation.{least, AreRaised}
 use Rattle.room_ledger.proofs.Following.{used-front}
-use Rattle.room_ledger.proofs.GateLaws.{down-waits, some-row, none-left}
+use Rattle.room_ledger.proofs.GateLaws.{down-waits, none-waits, some-row}
 use Rattle.env_script.proofs.Lasting.{offers-stay}
 use Rattle.vidi_recorder.specs.Course.{Course, course, sizes_of, GatesUnder, IsRunOf}
 use Rattle.vidi_recorder.specs.Laws.{TheRunIsKept, NoHiddenGate, DrainedRunIsPlain}
@@ -30,19 +30,19 @@ use Rattle.vidi_recorder.proofs.Runs.{the-run}
 
 -- ---- gates stay
 gates-on : (sizes : List ℕ) (plan : Plan) (before : List Row) (row : Row) (next : ℕ)
-    → AreGates sizes plan (before ++ row ∷ []) (suc (length before)) next → (c : ℕ) → keeps row c ≡ true → has next c ≡ true
+    → AreGates sizes plan (before ++ row ∷ []) (suc (length before)) false next → (c : ℕ) → keeps row false c ≡ true → has next c ≡ true
 gates-on sizes plan before row next is c kept-up =
     let all = before ++ row ∷ [] in
-    let found = some-row (λ r. AreRaised sizes plan.capacity (used_at sizes plan all (suc (length before))) (keeps r) (is_in_flight r)
+    let found = some-row (λ r. AreRaised sizes plan.capacity (charged_at sizes plan all (suc (length before)) false) (keeps r false) (is_in_flight r)
     (has next)) (slice_get all (length before)) is in
     let same : row ≡ found.0 = same_Some row found.0 (sym (slice_get-last before row) ∙ found.1) in
-    found.2.stay c (ap (λ (r : Row). keeps r c) (sym same) ∙ kept-up)
+    found.2.stay c (ap (λ (r : Row). keeps r false c) (sym same) ∙ kept-up)
 
 pub gates-stay : (channels : List Channel) (plan : Plan) → StayUp channels (GatesUnder channels plan)
 gates-stay channels plan = record {
   stay = λ before row next are g n c up unended.
       gates-on (sizes_of channels) plan before row next
-      (subst (λ (t : ℕ). AreGates (sizes_of channels) plan (before ++ row ∷ []) t next)
+      (subst (λ (t : ℕ). AreGates (sizes_of channels) plan (before ++ row ∷ []) t false next)
       (length_push before row ∙ add-one (length before)) n)
       c (and_from (has row.gates c) (not (completes row c)) up (ap not unended));
 }
@@ -90,24 +90,24 @@ no-hidden_gate w rows t c row fits run at l down =
     let front = take t rows in
     let inside = slice_get_within rows t row at in
     let long : length front ≡ t = length-take-le t rows (omega (arith, inside)) in
-    let gates : AreGates sizes w.plan front t row.gates =
-    subst (λ (k : ℕ). AreGates sizes w.plan front k row.gates) long (run.ruled t row at).1 in
+    let gates : AreGates sizes w.plan front t false row.gates =
+    subst (λ (k : ℕ). AreGates sizes w.plan front k false row.gates) long (run.ruled t row at).1 in
     let many = length-map w.bound.channels content_bytes in
-    let some = down-waits sizes w.plan front t row.gates c fits gates (omega (arith, l, many)) down in
-    let used : used_at sizes w.plan rows t ≡ used_at sizes w.plan front t =
-    ap (λ (rs : List Row). used_at sizes w.plan rs t) (sym (take-append-drop t rows))
-    ∙ used-front sizes w.plan front (drop t rows) t (omega (arith, long)) in
+    let some = down-waits sizes w.plan front t false row.gates c fits gates (omega (arith, l, many)) down in
+    let used : used_at sizes w.plan rows t false ≡ used_at sizes w.plan front t false =
+    ap (λ (rs : List Row). used_at sizes w.plan rs t false) (sym (take-append-drop t rows))
+    ∙ used-front sizes w.plan front (drop t rows) t false (omega (arith, long)) in
     omega (arith, some, used)
 
 -- ---- everything drains
 
-plain : (w : Course) (rows : List Row) → need (sizes_of w.bound.channels) ≤ w.plan.capacity → IsRunOf w rows
-    → ((t : ℕ) → t < length rows → used_at (sizes_of w.bound.channels) w.plan rows t ≡ 0)
+plain : (w : Course) (rows : List Row) → least (sizes_of w.bound.channels) w.plan.resets ≤ w.plan.capacity → IsRunOf w rows
+    → ((t : ℕ) → t < length rows → used_at (sizes_of w.bound.channels) w.plan rows t false ≡ 0)
     → IsRun w.design w.bound w.offers (AllUp w.bound.channels) rows
 plain w rows fits run none = record {
   marked = run.marked;
   driven = run.driven;
-  ruled = λ t row at. ((run.ruled t row at).0, up t row at);
+  ruled = λ t row at. ((run.ruled t row at).0, up t row at, (run.ruled t row at).2);
 }
   where
     up : (t : ℕ) (row : Row) → slice_get rows t ≡ Some row → row.gates ≡ all_up w.bound.channels
@@ -123,14 +123,15 @@ plain w rows fits run none = record {
 
 pub drained-plain : DrainedRunIsPlain
 drained-plain w rows None fits drains (run, stable, e) =
-    (plain w rows fits run (λ t l. none-left (sizes_of w.bound.channels) w.plan rows drains t), stable, e)
+    (plain w rows fits run (λ t l. none-waits (sizes_of w.bound.channels) w.plan rows drains t), stable, e)
 drained-plain w rows (Some c) fits drains (stops, l) =
     let sizes = sizes_of w.bound.channels in
     let long = length_push rows stops.next in (
       record {
         next = stops.next;
         played = plain w (rows ++ stops.next ∷ []) fits stops.played
-            (λ t k. used-front sizes w.plan rows (stops.next ∷ []) t (omega (arith, k, long)) ∙ none-left sizes w.plan rows drains t);
+            (λ t k. used-front sizes w.plan rows (stops.next ∷ []) t false (omega (arith, k, long))
+            ∙ none-waits sizes w.plan rows drains t);
         stable = stops.stable;
         unstable = stops.unstable;
       },

@@ -3,31 +3,21 @@ use Rattle.std.proofs.Common.{◌≡◌, ℕ, ◌+◌, ◌≤◌, ◌&&◌, ◌=
 use Rattle.std.proofs.Common.{length, map, sum_by, ap, sym, ◌∙◌, arith}
 use Rattle.std.proofs.lemmas.List.{length-map}
 use Rattle.std.proofs.lemmas.List.Sums.{sum_by-cons}
-use Rattle.trace_code.specs.trace_model.declared.packet.TheConstants.{LONGEST_PACKET}
 use Rattle.trace_code.specs.trace_model.declared.channel.Channel.{Channel}
 use Rattle.trace_code.specs.trace_model.Channel.{content_bytes, IsTable}
 use Rattle.trace_code.specs.trace_model.declared.row.Row.{Row}
-use Rattle.trace_code.specs.trace_model.Length.{contents_len, head_len, packet_len}
+use Rattle.trace_code.specs.trace_model.Length.{contents_len, head_len, longest_packet, packet_len}
 use Rattle.trace_code.proofs.RowBytes.{contents_len-widths, contents-least}
 use Rattle.room_ledger.specs.Gates.{row_len}
 use Rattle.room_ledger.specs.Ledger.{Ledger, claimed, Emitted}
 use Rattle.room_ledger.specs.Reservation.{event_len, need, whole}
 use Rattle.room_ledger.proofs.Following.{same-len}
 
--- a lawful table's packets are no longer than the longest
-pub longest : (channels : List Channel) → IsTable channels → head_len (length channels) + sum_by content_bytes channels ≤ LONGEST_PACKET
-longest channels table =
-    let few = table.few in
-    let content = table.content in
-    omega (arith, few, content)
-
 -- a packet is no longer than one in which all channels start
-pub packet-most : (channels : List Channel) (starts ends : ℕ)
-    → packet_len channels starts ends ≤ head_len (length channels) + sum_by content_bytes channels
+pub packet-most : (channels : List Channel) (starts ends : ℕ) → packet_len channels starts ends ≤ longest_packet channels
 packet-most channels starts ends = one (starts == 0 && ends == 0)
   where
-    one : (b : Bool) → cond b 0 (head_len (length channels) + contents_len starts channels)
-        ≤ head_len (length channels) + sum_by content_bytes channels
+    one : (b : Bool) → cond b 0 (head_len (length channels) + contents_len starts channels) ≤ longest_packet channels
     one true = omega arith
     one false = let a = contents_len-widths starts channels in let b = contents-least starts channels in omega arith
 

@@ -1,5 +1,6 @@
 pub mod Silent
 pub mod Lengths
+pub mod Passed
 pub mod Pushing
 pub mod Runs
 pub mod Kept

@@ -25,7 +25,7 @@ use Rattle.env_script.proofs.run_model_lemmas.PlayedLaws.{Determines, one-list_o
 use Rattle.env_script.proofs.run_model_lemmas.RowParts.{carried}
 use Rattle.env_script.proofs.run_model_lemmas.RunLaws.{one-of_length, GatesAreFixed}
 use Rattle.env_script.proofs.run_model_lemmas.Stops.{one-that_ends}
-use Rattle.room_ledger.specs.Gates.{Plan, used_at, keeps, AreGates}
+use Rattle.room_ledger.specs.Gates.{Plan, charged_at, keeps, AreGates}
 use Rattle.room_ledger.specs.Reservation.{AreRaised}
 use Rattle.room_ledger.proofs.Existence.{has-gates}
 use Rattle.room_ledger.proofs.GateLaws.{one-set, some-row}
@@ -40,8 +40,8 @@ use Rattle.vidi_recorder.specs.Recording.{IsFrontOfTheRun}
 
 determines : (w : Course) → Determines w.bound.channels (rule_of w)
 determines w before a b are oa ob ra rb =
-    carried w.bound.channels (w.offers before) a b
-    (one-set (sizes_of w.bound.channels) w.plan before (length before) a.gates b.gates ra.1 rb.1) ra.0 rb.0
+    let gates = one-set (sizes_of w.bound.channels) w.plan before (length before) false a.gates b.gates ra.1 rb.1 in
+    (ra.2 ∙ sym rb.2, carried w.bound.channels (w.offers before) a b gates ra.0 rb.0)
 
 -- ---- what holds of the run
 pub the-run : (w : Course) (all : List Row) (stop : Option ℕ) → IsTheRunOf w all stop
@@ -115,20 +115,20 @@ pub gates-fixed : (channels : List Channel) (plan : Plan) → GatesAreFixed chan
 gates-fixed channels plan before are =
     let sizes = sizes_of channels in
     let many = length-map channels content_bytes in
-    let there = has-gates sizes plan before (length before)
+    let there = has-gates sizes plan before (length before) false
     (λ u row at. subst (λ n. row.gates < 2 ^ n) (sym many) (are u row at).0.gates) (omega arith) in
     record {
       mask = there.0;
       is = there.1;
-      below = subst (λ n. there.0 < 2 ^ n) many (mask-within sizes plan before (length before) there.0 there.1);
-      only = one-set sizes plan before (length before);
+      below = subst (λ n. there.0 < 2 ^ n) many (mask-within sizes plan before (length before) false there.0 there.1);
+      only = one-set sizes plan before (length before) false;
     }
   where
-    mask-within : (sizes : List ℕ) (plan : Plan) (rows : List Row) (t gates : ℕ) → AreGates sizes plan rows t gates
+    mask-within : (sizes : List ℕ) (plan : Plan) (rows : List Row) (t : ℕ) (fresh : Bool) (gates : ℕ) → AreGates sizes plan rows t fresh gates
         → gates < 2 ^ length sizes
-    mask-within sizes plan rows zero gates is = let some = pow_pos (length sizes) in omega (arith, is, some)
-    mask-within sizes plan rows (suc t) gates is =
-        let before = some-row (λ row. AreRaised sizes plan.capacity (used_at sizes plan rows (suc t)) (keeps row) (is_in_flight row)
+    mask-within sizes plan rows zero fresh gates is = let some = pow_pos (length sizes) in omega (arith, is, some)
+    mask-within sizes plan rows (suc t) fresh gates is =
+        let before = some-row (λ row. AreRaised sizes plan.capacity (charged_at sizes plan rows (suc t) fresh) (keeps row fresh) (is_in_flight row)
         (has gates)) (slice_get rows t) is in
         fits_by_bits gates (length sizes) (λ k l. no-bit-from-has gates k (before.2.channels k l))
 

@@ -1,9 +1,9 @@
 -- A script's run is one and is kept, and a plan whose lines let out all that the store can hold leaves nothing.
-use Rattle.std.proofs.Common.{◌≡◌, ℕ, zero, suc, ◌+◌, ◌≤◌, ◌<◌, ◌^◌, ◌%◌, List, [], ◌∷◌, ◌++◌, Option, None, Some, length, slice_get, get_or}
+use Rattle.std.proofs.Common.{◌≡◌, ℕ, zero, suc, ◌+◌, ◌≤◌, ◌<◌, ◌^◌, ◌%◌, false, List, [], ◌∷◌, ◌++◌, Option, None, Some, length, slice_get, get_or}
 use Rattle.std.proofs.Common.{refl, arith}
 use Rattle.std.specs.Prelude.{replicate}
 use Rattle.room_ledger.specs.Gates.{left, row_len, used_at}
-use Rattle.env_script.specs.script_text.declared.script.TheConstants.{MOST_CYCLES}
+use Rattle.trace_code.specs.trace_model.declared.packet.TheConstants.{MOST_CYCLES}
 use Rattle.env_script.specs.script_text.declared.stalls.Drain.{Drain}
 use Rattle.env_script.specs.script_text.Plan.{allowances, allowance_at}
 use Rattle.env_script.specs.script_text.ScriptOffer.{script_offer}
@@ -45,12 +45,12 @@ none-stays capacity (Some n) bytes is l = omega (arith, is, l)
 pub full-drains : FullPlanDrains
 full-drains channels stalls rows table holds all t = used-none (suc t)
   where
-    used-none : (u : ℕ) → used_at (sizes_of channels) (plan_of stalls) rows u ≡ 0
+    used-none : (u : ℕ) → used_at (sizes_of channels) (plan_of stalls) rows u false ≡ 0
     used-none zero = refl
     used-none (suc u) =
         let before = used-none u in
         let len = row-least channels table (slice_get rows u) in
         none-stays stalls.capacity (allowance_at stalls.drains u)
-        (used_at (sizes_of channels) (plan_of stalls) rows u + row_len (sizes_of channels) (slice_get rows u))
+        (used_at (sizes_of channels) (plan_of stalls) rows u false + row_len (sizes_of channels) (slice_get rows u))
         (out-all stalls.capacity stalls.drains all (u % length (allowances stalls.drains)))
         (omega (arith, before, len, holds))

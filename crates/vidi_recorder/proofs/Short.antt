@@ -1,10 +1,10 @@
 -- A recorded trace isn't too long to be read again.
-use Rattle.std.proofs.Common.{◌≡◌, ℕ, suc, ◌*◌, ◌≤◌, List, [], ◌∷◌, ◌++◌, Some, length, slice_get}
+use Rattle.std.proofs.Common.{◌≡◌, ℕ, suc, ◌+◌, ◌*◌, ◌≤◌, List, [], ◌∷◌, ◌++◌, Some, length, slice_get}
 use Rattle.std.proofs.Common.{refl, ap, arith}
 use Rattle.std.specs.List.{All, flat_map}
 use Rattle.std.proofs.lemmas.List.{length-append}
 use Rattle.std.proofs.lemmas.List.Elements.{All-head, All-tail}
-use Rattle.trace_code.specs.trace_model.declared.packet.TheConstants.{LONGEST_PACKET}
+use Rattle.trace_code.specs.trace_model.declared.packet.TheConstants.{LONGEST_PACKET, MOST_CHANNELS, MOST_CYCLES}
 use Rattle.trace_code.specs.trace_model.declared.channel.Channel.{Channel}
 use Rattle.trace_code.specs.trace_model.declared.row.Row.{Row}
 use Rattle.trace_code.specs.trace_model.Channel.{IsChannel, IsName, IsTable}
@@ -13,10 +13,10 @@ use Rattle.trace_code.specs.trace_model.Row.{AreRows, IsOver}
 use Rattle.trace_code.specs.declared.decoding.TheConstants.{TRACE_LIMIT}
 use Rattle.trace_code.specs.Encoding.{channel_bytes, encode, end_mark, header_bytes, row_bytes}
 use Rattle.room_ledger.proofs.Following.{same-len}
-use Rattle.env_script.specs.script_text.declared.script.TheConstants.{MOST_CYCLES}
 use Rattle.vidi_recorder.specs.Standing.{body}
 use Rattle.vidi_recorder.proofs.Going.{bytes-len}
-use Rattle.vidi_recorder.proofs.Lengths.{longest, packet-most}
+use Rattle.vidi_recorder.proofs.Lengths.{packet-most}
+use Rattle.vidi_recorder.proofs.Passed.{longest}
 use Rattle.vidi_recorder.proofs.Runs.{encode-is, mark_of}
 
 -- ---- the header
@@ -39,7 +39,7 @@ channels-short (c ∷ channels) all =
     let d = length-append (channel_bytes c) (flat_map channel_bytes channels) in
     omega (arith, a, b, d)
 
-header-short : (channels : List Channel) → IsTable channels → length (header_bytes channels) ≤ 2665
+header-short : (channels : List Channel) → IsTable channels → length (header_bytes channels) ≤ 9 + 83 * MOST_CHANNELS
 header-short channels table =
     let a = channels-short channels table.each in
     let few = table.few in

@@ -2,6 +2,7 @@
 use Rattle.std.proofs.Common.{◌≡◌, ℕ, zero, suc, ◌<◌, ◌≤◌, ◌&&◌, ◌==◌, true, false, not, List, [], ◌∷◌, ◌++◌, Option}
 use Rattle.std.proofs.Common.{Some, None}
 use Rattle.std.proofs.Common.{length, slice_get, refl, ap, sym, subst, ◌∙◌, arith, ⊎_elim}
+use Rattle.std.proofs.Math.Bool.{and-false}
 use Rattle.std.proofs.lemmas.Bool.{false≢true}
 use Rattle.std.proofs.lemmas.Option.{same_Some}
 use Rattle.trace_code.specs.trace_model.declared.channel.Channel.{Channel}
@@ -90,17 +91,19 @@ grown-push w rows row now after grown ruled over marked step =
 
 -- the row that a shell shows is the run's next
 pub ruled-row : (w : Course) (rows : List Row) (l : Ledger) (now : Values) (before : Option Row) (offers : Offers) (gates : ℕ) (row : Row)
-    → StandsAfter (sizes_of w.bound.channels) w.plan rows l → gates ≡ l.gates → offers ≡ w.offers rows
-    → IsShown w.design w.bound now before offers gates row → rule_of w rows row
-ruled-row w rows l now before offers gates row stands g o is = (
+    → StandsAfter (sizes_of w.bound.channels) w.plan rows false l → gates ≡ l.gates → offers ≡ w.offers rows
+    → row.fresh ≡ false → IsShown w.design w.bound now before offers gates row → rule_of w rows row
+ruled-row w rows l now before offers gates row stands g o unmarked is = (
   subst (λ (os : Offers). Carries w.bound.channels os row) o is.carries,
   subst (GatesUnder w.bound.channels w.plan rows) (sym (is.gates_are ∙ g)) stands.gates,
+  unmarked,
 )
 
 pub follows-row : (w : Course) (rows : List Row) (l : Ledger) (row : Row) → OffersStay w.bound.channels w.offers
     → IsRunOf w (rows ++ row ∷ []) → AreStable w.bound.channels (rows ++ row ∷ []) → row.gates ≡ l.gates
-    → IsMarked (row_before rows (length rows)) row → MayFollow l (row_before rows (length rows)) row
-follows-row w rows l row stays run stable g marked = record {
+    → row.fresh ≡ false → IsMarked (row_before rows (length rows)) row → MayFollow l false (row_before rows (length rows)) row
+follows-row w rows l row stays run stable g unmarked marked = record {
+  mark = ap (λ b. l.resets && b) unmarked ∙ and-false l.resets;
   gates = g;
   marked = marked;
   stays = λ c h. shown (row_before rows (length rows)) refl c h;
@@ -124,27 +127,27 @@ first-runs w m runs e (first, is, on) = (
 
 -- the run with the row that the shell shows, before its clock
 pub run-more : (w : Course) (rows : List Row) (row : Row) (l : Ledger) (runs : Design → Values → Option Row → Type 0) (m : Map)
-    (offers : Offers) (gates : ℕ) → m ≡ w.bound → StandsAfter (sizes_of w.bound.channels) w.plan rows l → gates ≡ l.gates
-    → offers ≡ w.offers rows → (r : Runs w runs rows) → IsShown w.design m r.0 (row_before rows (length rows)) offers gates row
+    (offers : Offers) (gates : ℕ) → m ≡ w.bound → StandsAfter (sizes_of w.bound.channels) w.plan rows false l → gates ≡ l.gates
+    → offers ≡ w.offers rows → row.fresh ≡ false → (r : Runs w runs rows) → IsShown w.design m r.0 (row_before rows (length rows)) offers gates row
     → IsRunOf w (rows ++ row ∷ [])
-run-more w rows row l runs m offers gates e stands g o (now, grown, on) shown =
+run-more w rows row l runs m offers gates e stands g o unmarked (now, grown, on) shown =
     let is : IsShown w.design w.bound now (row_before rows (length rows)) offers gates row =
     subst (λ (b : Map). IsShown w.design b now (row_before rows (length rows)) offers gates row) e shown in
     (grown-push w rows row now is.after grown
-    (ruled-row w rows l now (row_before rows (length rows)) offers gates row stands g o is) is.over is.marked is.step).played
+    (ruled-row w rows l now (row_before rows (length rows)) offers gates row stands g o unmarked is) is.over is.marked is.step).played
 
 -- the run and the shell behind its clock
 pub runs-more : (w : Course) (rows : List Row) (row : Row) (l : Ledger) (runs after_runs : Design → Values → Option Row → Type 0)
-    (m n : Map) (offers : Offers) (gates : ℕ) → m ≡ w.bound → n ≡ w.bound → StandsAfter (sizes_of w.bound.channels) w.plan rows l
+    (m n : Map) (offers : Offers) (gates : ℕ) → m ≡ w.bound → n ≡ w.bound → StandsAfter (sizes_of w.bound.channels) w.plan rows false l
     → gates ≡ l.gates
-    → offers ≡ w.offers rows → (r : Runs w runs rows) → IsShown w.design m r.0 (row_before rows (length rows)) offers gates row
+    → offers ≡ w.offers rows → row.fresh ≡ false → (r : Runs w runs rows) → IsShown w.design m r.0 (row_before rows (length rows)) offers gates row
     → ((after : Values) × IsStep w.design n r.0 row after × after_runs w.design after (Some row)) → Runs w after_runs (rows ++ row ∷ [])
-runs-more w rows row l runs after_runs m n offers gates e f stands g o (now, grown, on) shown (after, step, next) =
+runs-more w rows row l runs after_runs m n offers gates e f stands g o unmarked (now, grown, on) shown (after, step, next) =
     let is : IsShown w.design w.bound now (row_before rows (length rows)) offers gates row =
     subst (λ (b : Map). IsShown w.design b now (row_before rows (length rows)) offers gates row) e shown in (
       after,
       grown-push w rows row now after grown
-          (ruled-row w rows l now (row_before rows (length rows)) offers gates row stands g o is) is.over is.marked
+          (ruled-row w rows l now (row_before rows (length rows)) offers gates row stands g o unmarked is) is.over is.marked
           (subst (λ (b : Map). IsStep w.design b now row after) f step),
       subst (after_runs w.design after) (sym (before-last rows row)) next,
     )
@@ -170,9 +173,9 @@ stops-here w rows last row c run stable is low l = (
 
 pub step-follows : (w : Course) (rows : List Row) (row last : Row) (l : Ledger) (runs : Design → Values → Option Row → Type 0) (m : Map)
     (offers : Offers) (gates : ℕ) → OffersStay w.bound.channels w.offers → m ≡ w.bound
-    → StandsAfter (sizes_of w.bound.channels) w.plan rows l → gates ≡ l.gates → offers ≡ w.offers rows → AreStable w.bound.channels rows
+    → StandsAfter (sizes_of w.bound.channels) w.plan rows false l → gates ≡ l.gates → offers ≡ w.offers rows → row.fresh ≡ false → AreStable w.bound.channels rows
     → IsLast (row_before rows (length rows)) last → IsLowestUnstable w.bound.channels last row None → (r : Runs w runs rows)
-    → IsShown w.design m r.0 (row_before rows (length rows)) offers gates row → MayFollow l (row_before rows (length rows)) row
-step-follows w rows row last l runs m offers gates stays e stands g o stable is none r shown =
-    follows-row w rows l row stays (run-more w rows row l runs m offers gates e stands g o r shown)
-    (stable-push w.bound.channels rows last row stable is none) (shown.gates_are ∙ g) shown.marked
+    → IsShown w.design m r.0 (row_before rows (length rows)) offers gates row → MayFollow l false (row_before rows (length rows)) row
+step-follows w rows row last l runs m offers gates stays e stands g o unmarked stable is none r shown =
+    follows-row w rows l row stays (run-more w rows row l runs m offers gates e stands g o unmarked r shown)
+    (stable-push w.bound.channels rows last row stable is none) (shown.gates_are ∙ g) unmarked shown.marked

@@ -54,10 +54,10 @@ fits-now channels offer current rows lasts now c x at = subst (FitsOffer x) (sym
 module _ (m given : Map) (offer : List Row → ℕ → Offer) (stalls : Stalls) (cycles : ℕ) (runs : Design → Values → Option Row → Type 0)
     (current : ℕ → Offer) (gates : ℕ) (rows : List Row) (row last : Row) (room : Ledger) (same : given ≡ m)
     (lasts : AreLasting m.channels offer) (now : (c : ℕ) → current c ≡ offer rows c)
-    (stands : StandsAfter (sizes_of m.channels) (plan_of stalls) rows room) (up : gates ≡ room.gates)
+    (stands : StandsAfter (sizes_of m.channels) (plan_of stalls) rows false room) (up : gates ≡ room.gates)
     (stable : AreStable m.channels rows) (is : IsLast (row_before rows (length rows)) last)
     (shown : (d : Design) (s : Values) (before : Option Row) → runs d s before
-    → IsShown d given s before (offers_on m.channels current) gates row) where
+    → IsShown d given s before (offers_on m.channels current) gates row) (unmarked : row.fresh ≡ false) where
   here : offers_on m.channels current ≡ offers_after m.channels offer rows
   here = ap (offers_on m.channels) (λ i c. now c i)
 
@@ -66,25 +66,25 @@ module _ (m given : Map) (offer : List Row → ℕ → Offer) (stalls : Stalls) 
   run-with d r =
       let w = course d m offer stalls cycles in
       let q = runs-of w runs rows r in
-      run-more w rows row room runs given (offers_on m.channels current) gates same stands up here q
+      run-more w rows row room runs given (offers_on m.channels current) gates same stands up here unmarked q
       (shown d q.0 (row_before rows (length rows)) q.2)
 
   follows-one : IsLowestUnstable m.channels last row None → ((d : Design) × Reached (course d m offer stalls cycles) runs rows)
-      → MayFollow room (row_before rows (length rows)) row
+      → MayFollow room false (row_before rows (length rows)) row
   follows-one none (d, r) =
       let w = course d m offer stalls cycles in
       let q = runs-of w runs rows r in
       step-follows w rows row last room runs given (offers_on m.channels current) gates (offers-stay m.channels offer lasts) same stands up
-      here stable is none q (shown d q.0 (row_before rows (length rows)) q.2)
+      here unmarked stable is none q (shown d q.0 (row_before rows (length rows)) q.2)
 
   pub follows : IsLowestUnstable m.channels last row None
       → ∥ ((d : Design) × Reached (course d m offer stalls cycles) runs rows) ∥₁
-      → MayFollow room (row_before rows (length rows)) row
+      → MayFollow room false (row_before rows (length rows)) row
   follows none some = ∥∥₁_elim some (hlevel props) (follows-one none)
 
   pub may : IsLowestUnstable m.channels last row None → ∥ ((d : Design) × Reached (course d m offer stalls cycles) runs rows) ∥₁
       → MayEmit room row.starts row.ends
-  may none some = (keeps-gates (sizes_of m.channels) (plan_of stalls)).lawful rows row room stands (follows none some)
+  may none some = (keeps-gates (sizes_of m.channels) (plan_of stalls)).lawful rows false row room stands (follows none some)
 
   pub clocked : (after_runs : Design → Values → Option Row → Type 0) (n : Map) (d : Design) → n ≡ m
       → ((s : Values) → runs d s (row_before rows (length rows))
@@ -94,7 +94,7 @@ module _ (m given : Map) (offer : List Row → ℕ → Offer) (stalls : Stalls) 
       let w = course d m offer stalls cycles in
       let q = runs-of w runs rows r in
       reached-of w after_runs (rows ++ row ∷ [])
-      (runs-more w rows row room runs after_runs given n (offers_on m.channels current) gates same e stands up here q
+      (runs-more w rows row room runs after_runs given n (offers_on m.channels current) gates same e stands up here unmarked q
       (shown d q.0 (row_before rows (length rows)) q.2) (next q.0 q.2))
 
   pub stops : (c : ℕ) → IsLowestUnstable m.channels last row (Some c) → (d : Design)
@@ -170,9 +170,9 @@ pub sizes-next : (channels : List Channel) (capacity store_capacity old_capacity
     (offers : Offers) (row last shown old_last : Row) (allowance : Option ℕ) → old_capacity ≡ capacity → put_capacity ≡ old_capacity
     → store_capacity ≡ put_capacity → mid_used ≤ capacity → used ≡ left allowance mid_used → length old_out ≡ capacity
     → length out ≡ length old_out → length offers.contents ≡ length (all_widths channels) → row ≡ old_last → last ≡ shown
-    → IsOver channels old_last → IsOver channels shown → HasSizes channels capacity store_capacity used out offers row last
+    → IsOver channels old_last → IsOver channels shown → old_last.fresh ≡ false → shown.fresh ≡ false → HasSizes channels capacity store_capacity used out offers row last
 sizes-next channels capacity store_capacity old_capacity put_capacity used mid_used out old_out offers row last shown old_last allowance
-    o p s w u old same os r l over_last over_shown =
+    o p s w u old same os r l over_last over_shown none_last none_shown =
     record {
       store = s ∙ p ∙ o;
       waits = omega (arith, w, u);
@@ -180,13 +180,15 @@ sizes-next channels capacity store_capacity old_capacity put_capacity used mid_u
       offers_len = os;
       places = ap (λ (q : Row). length q.contents) r ∙ sym (fit-length (all_widths channels) old_last.contents over_last.contents);
       over = subst (IsOver channels) (sym l) over_shown;
+      fresh = (ap (λ (q : Row). q.fresh) r ∙ none_last, ap (λ (q : Row). q.fresh) l ∙ none_shown);
     }
 
 -- what may follow rows may follow all rows behind which the books are the same
-pub follows-also : (sizes : List ℕ) (plan : Plan) (rows others : List Row) (row : Row) (room : Ledger) → StandsAfter sizes plan rows room
-    → StandsAfter sizes plan others room → MayFollow room (row_before rows (length rows)) row
-    → MayFollow room (row_before others (length others)) row
+pub follows-also : (sizes : List ℕ) (plan : Plan) (rows others : List Row) (row : Row) (room : Ledger) → StandsAfter sizes plan rows false room
+    → StandsAfter sizes plan others false room → MayFollow room false (row_before rows (length rows)) row
+    → MayFollow room false (row_before others (length others)) row
 follows-also sizes plan rows others row room a b f = record {
+  mark = f.mark;
   gates = f.gates;
   marked = record {
     starts = λ c. f.marked.starts c ∙ ap (λ x. sink_valid row c && not x) (same c);

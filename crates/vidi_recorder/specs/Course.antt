@@ -1,5 +1,5 @@
 -- The run that is recorded: of a design, under what an environment offers and a plan of stalls (this project's profile).
-use Rattle.std.specs.Prelude.{ℕ, ◌+◌, zero, suc, List, Option, length, map, slice_get}
+use Rattle.std.specs.Prelude.{ℕ, ◌+◌, zero, suc, false, List, Option, length, map, slice_get}
 use Rattle.trace_code.specs.trace_model.declared.channel.Channel.{Channel}
 use Rattle.trace_code.specs.trace_model.declared.row.Offers.{Offers}
 use Rattle.trace_code.specs.trace_model.declared.row.Row.{Row}
@@ -21,9 +21,9 @@ pub record Course : Type 0 where
   pub plan : Plan
   pub cycles : ℕ
 
--- the plan that the lines of a stalls file say
+-- the plan that the lines of a stalls file say; it has no resets
 abbrev pub plan_of : Stalls → Plan
-plan_of stalls = record { capacity = stalls.capacity; allowance = allowance_at stalls.drains }
+plan_of stalls = record { capacity = stalls.capacity; allowance = allowance_at stalls.drains; resets = false }
 
 abbrev pub course : Design → Map → (List Row → ℕ → Offer) → Stalls → ℕ → Course
 course d m offer stalls cycles = record {
@@ -38,9 +38,9 @@ course d m offer stalls cycles = record {
 abbrev pub sizes_of : List Channel → List ℕ
 sizes_of channels = map content_bytes channels
 
--- *Gates* after these rows
+-- *Gates* after these rows, behind which no reset comes
 abbrev pub GatesUnder : List Channel → Plan → List Row → ℕ → Type 0
-GatesUnder channels plan before gates = AreGates (sizes_of channels) plan before (length before) gates
+GatesUnder channels plan before gates = AreGates (sizes_of channels) plan before (length before) false gates
 
 -- what *IsRun* says of a row after those before it, under the plan
 abbrev pub rule_of : Course → List Row → Row → Type 0
@@ -56,7 +56,7 @@ IsTheRunOf w rows stop = IsTheRun w.design w.bound w.offers (GatesUnder w.bound.
 
 -- the bytes that drain after row t
 abbrev pub drained_after : List ℕ → Plan → List Row → ℕ → ℕ
-drained_after sizes plan rows t = drained (plan.allowance t) (used_at sizes plan rows t + row_len sizes (slice_get rows t))
+drained_after sizes plan rows t = drained (plan.allowance t) (used_at sizes plan rows t false + row_len sizes (slice_get rows t))
 
 -- the bytes that drain after the rows before row t
 abbrev pub drained_before : List ℕ → Plan → List Row → ℕ → ℕ

@@ -15,7 +15,7 @@ use Rattle.env_script.specs.run_model.Laws.{ContentsStay, IsReady, OneOfLength, 
 use Rattle.env_script.specs.run_model.Run.{AllUp, IsTheRun}
 use Rattle.room_ledger.specs.Gates.{used_at}
 use Rattle.room_ledger.specs.Laws.{EverythingDrains}
-use Rattle.room_ledger.specs.Reservation.{need}
+use Rattle.room_ledger.specs.Reservation.{least}
 use Rattle.env_script.specs.script_text.declared.stalls.Stalls.{Stalls}
 use Rattle.env_script.specs.script_text.Offer.{Offer}
 use Rattle.env_script.specs.Offered.{AreLasting}
@@ -42,12 +42,12 @@ TheRunIsKept = (d : Design) (m : Map) (offer : List Row → ℕ → Offer) (stal
 
 -- a gate is down in row t only where bytes wait
 abbrev pub NoHiddenGate : Type 0
-NoHiddenGate = (w : Course) (rows : List Row) (t c : ℕ) (row : Row) → need (sizes_of w.bound.channels) ≤ w.plan.capacity → IsRunOf w rows
+NoHiddenGate = (w : Course) (rows : List Row) (t c : ℕ) (row : Row) → least (sizes_of w.bound.channels) w.plan.resets ≤ w.plan.capacity → IsRunOf w rows
     → slice_get rows t ≡ Some row → c < length w.bound.channels → has row.gates c ≡ false
-    → 0 < used_at (sizes_of w.bound.channels) w.plan rows t
+    → 0 < used_at (sizes_of w.bound.channels) w.plan rows t false
 
 -- where everything drains in each cycle, the run is the one without a store
 abbrev pub DrainedRunIsPlain : Type 0
-DrainedRunIsPlain = (w : Course) (rows : List Row) (stop : Option ℕ) → need (sizes_of w.bound.channels) ≤ w.plan.capacity
+DrainedRunIsPlain = (w : Course) (rows : List Row) (stop : Option ℕ) → least (sizes_of w.bound.channels) w.plan.resets ≤ w.plan.capacity
     → EverythingDrains (sizes_of w.bound.channels) w.plan rows → IsTheRunOf w rows stop
     → IsTheRun w.design w.bound w.offers (AllUp w.bound.channels) w.cycles rows stop

@@ -1,5 +1,5 @@
 -- Where a recording stands between two cycles, and where a failed push has cut it off (this project's profile).
-use Rattle.std.specs.Prelude.{◌≡◌, ℕ, ◌+◌, ◌-◌, ◌<◌, ◌≤◌, List, ◌++◌, Option, None, Some, length}
+use Rattle.std.specs.Prelude.{◌≡◌, ℕ, ◌+◌, ◌-◌, ◌<◌, ◌≤◌, false, List, ◌++◌, Option, None, Some, length}
 use Rattle.std.specs.Io.KnownBytes.{append_known}
 use Rattle.std.specs.List.{flat_map}
 use Rattle.trace_code.specs.trace_model.declared.channel.Channel.{Channel}
@@ -27,7 +27,7 @@ body channels rows = flat_map (row_bytes channels) rows
 -- header and what drains after the rows. `first` is what the sink told before.
 pub record Going (channels : List Channel) (plan : Plan) (first : Option (List ℕ)) (rows : List Row) (room : Ledger) (items : List ℕ)
     (told : Option (List ℕ)) (packets : ℕ) : Type 0 where
-  pub stands : StandsAfter (sizes_of channels) plan rows room
+  pub stands : StandsAfter (sizes_of channels) plan rows false room
   pub waits : length items ≡ room.used
   pub bytes : List ℕ
   pub told_is : told ≡ append_known first bytes
@@ -57,7 +57,7 @@ pub record StandsAt (channels : List Channel) (plan : Plan) (first : Option (Lis
   pub last_is : IsLast (row_before rows (length rows)) last
   pub going : Going channels plan first rows room items told packets
 
--- the memory of a recording has the sizes that its calls ask for
+-- the memory of a recording has the sizes that its calls ask for, and no row is fresh
 pub record HasSizes (channels : List Channel) (capacity store_capacity used : ℕ) (out : List ℕ) (offers : Offers) (row last : Row)
     : Type 0 where
   pub store : store_capacity ≡ capacity
@@ -66,6 +66,7 @@ pub record HasSizes (channels : List Channel) (capacity store_capacity used : �
   pub offers_len : length offers.contents ≡ length (all_widths channels)
   pub places : HasPlaces channels row
   pub over : IsOver channels last
+  pub fresh : (row.fresh ≡ false) × (last.fresh ≡ false)
 
 -- the rows are a run's, and the shell goes on behind them
 abbrev pub Reached : Course → (Design → Values → Option Row → Type 0) → List Row → Type 0

@@ -1,6 +1,6 @@
 //! The memory of a recording.
 
-ghost use Rattle.std.specs.Prelude.{◌≡◌, [], length, IfOk};
+ghost use Rattle.std.specs.Prelude.{◌≡◌, [], false, length, IfOk};
 ghost use Rattle.circular_buffer.specs.Buffer.{buffer};
 ghost use Rattle.trace_code.specs.trace_model.Channel.{IsTable};
 ghost use Rattle.trace_code.specs.trace_model.Row.{all_widths, IsOver};
@@ -37,7 +37,7 @@ pub(crate) struct Cells {
 /// A row in which nothing is up.
 #[tactic(auto, using(crate::proofs::Silent::silent_over))]
 fn silent_row(alloc: Global, channels: &Channels) -> Result<Row, Memory>
-    ensures { IfOk result (λ row. (row.valids ≡ 0) × IsOver channels.now row) }
+    ensures { IfOk result (λ row. (row.valids ≡ 0) × IsOver channels.now row × (row.fresh ≡ false)) }
 {
     row_over(alloc, channels)
 }
@@ -65,6 +65,7 @@ pub(crate) fn open(
     ensures offers { IfOk result (λ cells. length cells.offers.contents ≡ length (all_widths channels.now)) }
     ensures row { IfOk result (λ cells. HasPlaces channels.now cells.row) }
     ensures last { IfOk result (λ cells. (cells.last.valids ≡ 0) × IsOver channels.now cells.last) }
+    ensures fresh { IfOk result (λ cells. (cells.row.fresh ≡ false) × (cells.last.fresh ≡ false)) }
     ensures packets { IfOk result (λ cells. cells.packets ≡ 0) }
 {
     let header = header_bytes(alloc, channels)?;

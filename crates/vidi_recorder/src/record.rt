@@ -1,19 +1,19 @@
 //! The recording.
 
-ghost use Rattle.std.specs.Prelude.{◌≡◌, ◌≤◌, ℕ, [], List, Err, Option, IfOk, IfErr, OnErr, length};
+ghost use Rattle.std.specs.Prelude.{◌≡◌, ◌≤◌, ℕ, [], false, List, Err, Option, IfOk, IfErr, OnErr, length};
 ghost use Rattle.circular_buffer.specs.Buffer.{buffer};
 ghost use Rattle.trace_code.specs.trace_model.declared.row.Row.{Row as OneRow};
 ghost use Rattle.trace_code.specs.trace_model.Channel.{IsTable};
 ghost use Rattle.trace_code.specs.Encoding.{header_bytes};
 ghost use Rattle.net_design.specs.declared.design.Design.{Design};
 ghost use Rattle.net_design.specs.declared.values.Values.{Values};
-ghost use Rattle.room_ledger.specs.Ledger.{fresh};
+ghost use Rattle.room_ledger.specs.Ledger.{empty};
 ghost use Rattle.vidi_io.specs.Cause.{HasCause};
 ghost use Rattle.vidi_io.specs.Sink.{Frame};
 ghost use Rattle.vidi_recorder.specs.Course.{course, plan_of, sizes_of};
 ghost use Rattle.vidi_recorder.specs.Recording.{EndsWith, FailsFor, FailsWith, IsCutOff};
 ghost use Rattle.vidi_recorder.specs.Standing.{Going, HasSizes, Reached, RunsTo};
-ghost use Rattle.env_script.specs.script_text.declared.script.TheConstants.{MOST_CYCLES};
+ghost use Rattle.trace_code.specs.trace_model.declared.packet.TheConstants.{MOST_CYCLES};
 
 use crate::cells::{Cells, open};
 use crate::error::{Outcome, RecordError};
@@ -43,7 +43,7 @@ fn play<S: Shell, E: Env, K: Sink>(
     requires first { E.stands_for env.old [] }
     requires few { cycles ≤ MOST_CYCLES }
     requires header { cells.old.header ≡ header_bytes map.now.channels }
-    requires room { cells.old.room ≡ fresh (sizes_of map.now.channels) stalls.now.capacity }
+    requires room { cells.old.room ≡ empty (sizes_of map.now.channels) false stalls.now.capacity }
     requires store { cells.old.store ≡ buffer [] stalls.now.capacity }
     requires last { cells.old.last.valids ≡ 0 }
     requires packets { cells.old.packets ≡ 0 }
@@ -84,7 +84,7 @@ fn play<S: Shell, E: Env, K: Sink>(
 }
 /// Runs a design behind the gates of its channels for 1 to 50,000 cycles and writes the trace of the run to the sink as it drains. The
 /// map's table is lawful, the shell and the environment are of the map's design and channels, the environment stands for no row yet,
-/// and the room is new, of the map's channels and the plan's capacity.
+/// and the room is new, of the map's channels and the plan's capacity, without resets.
 ///
 /// `Whole` exactly where no row of the run is unstable, `Unstable` where one is: the run ends before it. The sink has grown by the
 /// encoding of the run's trace, of at most 67,108,864 bytes; the environment stands for its rows, and the shell in the state behind
@@ -106,7 +106,7 @@ pub fn record_run<S: Shell, E: Env, K: Sink>(
     requires mapped { S.map shell.old ≡ map.now }
     requires channels { E.channels env.old ≡ map.now.channels }
     requires first { E.stands_for env.old [] }
-    requires room { room ≡ fresh (sizes_of map.now.channels) stalls.now.capacity }
+    requires room { room ≡ empty (sizes_of map.now.channels) false stalls.now.capacity }
     requires some { 1 ≤ cycles }
     requires few { cycles ≤ MOST_CYCLES }
     ensures ok { IfOk result (λ outcome. (d : Design) (s : Values) (before : Option OneRow) → S.runs shell.old d s before

@@ -22,7 +22,7 @@ ghost use Rattle.vidi_io.specs.Sink.{AppendsSome, Frame};
 use chan_monitor::Shell;
 use env_script::{Env, gather};
 use room_ledger::Room;
-use trace_code::trace_model::{Channels, Offers, Row};
+use trace_code::trace_model::{Channels, Offers, Row, packets_in};
 use trace_code::{end_mark, write_packet};
 use trace_store::Store;
 use vidi_io::{Failed, Sink};
@@ -49,6 +49,7 @@ pub(crate) fn look<S: Shell, E: Env>(
     ensures carries { Carries channels.now (E.current env.now) row.new }
     ensures ends { EndsAreCompletions row.new }
     ensures gates { row.new.gates ≡ gates }
+    ensures fresh { row.new.fresh ≡ row.old.fresh }
     ensures offers { length offers.new.contents ≡ length (all_widths channels.now) }
     ensures driven { S.driven shell.new row.new }
     ensures map { S.map shell.new ≡ S.map shell.old }
@@ -57,19 +58,8 @@ pub(crate) fn look<S: Shell, E: Env>(
     shell.drive(offers, gates, row);
 }
 
-/// How many packets a row has: one where it has an event.
-fn packets_of(row: &Row) -> u32
-    ensures { result ≡ (if has_event row.now then 1 else 0) }
-{
-    if row.starts == 0 && row.ends == 0 {
-        0
-    } else {
-        1
-    }
-}
-
 /// Puts the packet of a row into the store and the books, where the row has an event. Gives how many packets it has.
-#[tactic(auto, using(crate::proofs::Lengths::longest, crate::proofs::Lengths::packet_room, crate::proofs::Lengths::used_within))]
+#[tactic(auto, using(crate::proofs::Passed::longest, crate::proofs::Lengths::packet_room, crate::proofs::Lengths::used_within))]
 pub(crate) fn keep(
     row: &Row,
     channels: &Channels,
@@ -92,7 +82,7 @@ pub(crate) fn keep(
     let len = write_packet(row, channels, packet);
     let _len = room.emit(row.starts, row.ends);
     store.put(&packet[..len]);
-    packets_of(row)
+    packets_in(row)
 }
 
 /// Pushes the first `n` bytes that wait, where there are any.

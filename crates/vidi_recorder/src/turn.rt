@@ -10,7 +10,7 @@ ghost use Rattle.vidi_io.specs.Cause.{HasCause};
 ghost use Rattle.vidi_io.specs.Sink.{Frame};
 ghost use Rattle.vidi_recorder.specs.Course.{course, plan_of, rule_of};
 ghost use Rattle.vidi_recorder.specs.Standing.{Cut, HasSizes, Reached, StandsAt};
-ghost use Rattle.env_script.specs.script_text.declared.script.TheConstants.{MOST_CYCLES};
+ghost use Rattle.trace_code.specs.trace_model.declared.packet.TheConstants.{MOST_CYCLES};
 
 use crate::cells::Cells;
 use crate::steps::{give, keep, look};

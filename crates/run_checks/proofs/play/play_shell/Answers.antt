@@ -45,7 +45,7 @@ loop-t-preserved g c =
           w.0 offer (slice_index c.args.gates.now c.loop-t.t) row inv.map w.1
           (c.in_ok-row.ensures.turn d w.0 (row_before rows (length rows)) w.2)
           (offer-here c.args.offers.now rows c.loop-t.t offer inv.count there) (ap (slice_index c.args.gates.now) (sym inv.count))
-          c.in_ok-row.ensures.gates c.in_ok-push.ensures.ok);
+          c.in_ok-row.ensures.gates c.in_ok-row.ensures.fresh c.in_ok-push.ensures.ok);
       map = c.cycle.ensures.map ∙ inv.map;
       count = ap length c.in_ok-push.ensures.ok ∙ length_push rows row ∙ ap (λ n. n + 1) inv.count;
     }

@@ -1,10 +1,10 @@
-use Rattle.std.proofs.Common.{◌≡◌, ◌∙◌, sym, ap, subst, Option, Some, None, Result, Ok, Err, IfOk, List, []}
+use Rattle.std.proofs.Common.{◌≡◌, ◌∙◌, false, sym, ap, subst, Option, Some, None, Result, Ok, Err, IfOk, List, []}
 use Rattle.std.specs.Result.{result_ok}
 use Rattle.bench_run.specs.trace_model.declared.channel.Channel.{Channel}
 use Rattle.bench_run.specs.script_text.declared.script.Script.{Script}
 use Rattle.bench_run.specs.script_text.Places.{StandsFor}
 use Rattle.bench_run.specs.env_script.declared.script_env.ScriptEnv.{ScriptEnv}
-use Rattle.vidi_recorder.specs.room_ledger.Ledger.{fresh}
+use Rattle.vidi_recorder.specs.room_ledger.Ledger.{empty}
 use Rattle.vidi_recorder.specs.Course.{sizes_of}
 use Rattle.script_checks.proofs.failing_tests.sends_after.Goals as goal
 
@@ -26,5 +26,5 @@ offers_after-requires-clause-first g c =
 pub offers_after-requires-clause-room : goal.offers_after-requires-clause-room
 offers_after-requires-clause-room g c =
     (of_ok _ c.new.result c.in_ok-room.room (sym c.ok.ensures.value ∙ c.in_ok-room.was) c.new.ensures.made).0
-    ∙ ap (λ (channels : List Channel). fresh (sizes_of channels) c.capacity.result) c.channels.ensures
-    ∙ ap (λ n. fresh (sizes_of c.args.map.now.channels) n) c.capacity.ensures
+    ∙ ap (λ (channels : List Channel). empty (sizes_of channels) false c.capacity.result) c.channels.ensures
+    ∙ ap (λ n. empty (sizes_of c.args.map.now.channels) false n) c.capacity.ensures

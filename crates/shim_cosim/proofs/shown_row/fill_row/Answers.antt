@@ -1,7 +1,6 @@
-use Rattle.std.proofs.Common.{◌∙◌, ap, length, refl}
+use Rattle.std.proofs.Common.{◌∙◌, ap, length}
 use Rattle.replay_run.specs.run_model.Building.{mask_of}
 use Rattle.replay_run.proofs.chan_monitor_lemmas.RowOfCycle.{refill-is}
-use Rattle.replay_run.proofs.chan_replayer_lemmas.Feeding.{all-gates}
 use Rattle.shim_cosim.specs.declared.shown_row.Signal.TheVariants.{Valid}
 use Rattle.shim_cosim.specs.Rewrapped.{contents_of, is_raised}
 use Rattle.shim_cosim.proofs.ShownRow.{starts_are}
@@ -17,9 +16,9 @@ returns c =
     ∙ ap (λ xs. contents_of channels (mask_of (is_raised channels out Valid) (length channels)) xs out) c.as_slice-fed.ensures in
     let starts = starts_are (length channels) c.args.flight c.raised-valids.result c.without-row.result (is_raised channels out Valid)
     c.raised-valids.ensures c.without-row.ensures in
-    let gates = all-gates channels (length channels) refl c.requires.few in
     λ i. record {
-      gates = gates i;
+      fresh = c.args.row.now.fresh;
+      gates = c.all_up.ensures i;
       valids = c.raised-valids.ensures i;
       readies = c.raised-row.ensures i;
       contents = contents i;

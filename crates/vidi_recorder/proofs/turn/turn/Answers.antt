@@ -68,7 +68,7 @@ keep-count-requires-clause-may g c =
     c.gates.result rows c.look.new.row c.args.cells.now.last c.args.cells.now.room c.requires.mapped
     (lasting m.channels (g.E.Env.channels env) offer c.requires.channels (g.met.E.Env.fits env) (g.met.E.Env.stays env))
     (g.met.E.Env.offers_now env rows at.played) at.going.stands c.gates.ensures.mask at.stable at.last_is
-    (λ d s before is. (c.look.ensures.shown d s before is).0) c.in_default.ensures c.requires.stands.4
+    (λ d s before is. (c.look.ensures.shown d s before is).0) (c.look.ensures.fresh ∙ c.requires.sizes.fresh.0) c.in_default.ensures c.requires.stands.4
 
 pub give-requires-clause-waits : goal.give-requires-clause-waits
 give-requires-clause-waits g c =
@@ -86,7 +86,7 @@ give-requires-clause-waits g c =
           (g.E.Env.current env) c.gates.result rows c.look.new.row c.args.cells.now.last c.args.cells.now.room c.requires.mapped
           (lasting m.channels (g.E.Env.channels env) offer c.requires.channels (g.met.E.Env.fits env) (g.met.E.Env.stays env))
           (g.met.E.Env.offers_now env rows at.played) at.going.stands c.gates.ensures.mask at.stable at.last_is
-          (λ d s before is. (c.look.ensures.shown d s before is).0) c.in_default.ensures c.requires.stands.4;
+          (λ d s before is. (c.look.ensures.shown d s before is).0) (c.look.ensures.fresh ∙ c.requires.sizes.fresh.0) c.in_default.ensures c.requires.stands.4;
       emitted = c.keep-count.ensures.room;
       put = ap (λ (b : Buffer ℕ). b.items) c.keep-count.ensures.store;
     })
@@ -102,7 +102,7 @@ returns-in-Some-clause-stops g c k same first rows long at =
             (g.E.Env.current env) c.gates.result rows c.look.new.row c.args.cells.now.last c.args.cells.now.room c.requires.mapped
             (lasting m.channels (g.E.Env.channels env) offer c.requires.channels (g.met.E.Env.fits env) (g.met.E.Env.stays env))
             (g.met.E.Env.offers_now env rows at.played) at.going.stands c.gates.ensures.mask at.stable at.last_is
-            (λ e s before is. (c.look.ensures.shown e s before is).0) k
+            (λ e s before is. (c.look.ensures.shown e s before is).0) (c.look.ensures.fresh ∙ c.requires.sizes.fresh.0) k
             (subst (λ (o : Option ℕ). IsLowestUnstable m.channels c.args.cells.now.last c.look.new.row o) same c.in-Some.ensures) d r,
         (r.0, (c.look.ensures.shown d (r.0.driven.state (length rows)) (row_before rows (length rows)) r.1).1),
       )),
@@ -128,6 +128,7 @@ returns-clause-on g c same first rows long at =
     let shown : (d : Design) (s : Values) (before : Option Row) → g.S.Shell.runs c.args.shell.now d s before
     → IsShown d given s before (offers_on m.channels (g.E.Env.current env)) c.gates.result row =
     λ d s before is. (c.look.ensures.shown d s before is).0 in
+    let unmarked = c.look.ensures.fresh ∙ c.requires.sizes.fresh.0 in
     let none = c.in_default.ensures in
     let cycle : Cycle m.channels (plan_of stalls) rows row room mid c.args.cells.now.store.items mixed = record {
       table = c.requires.table;
@@ -137,7 +138,7 @@ returns-clause-on g c same first rows long at =
           (follows m given offer stalls c.args.cycle (g.S.Shell.runs c.args.shell.now) (g.E.Env.current env) c.gates.result
           c.requires.stands.1 row last room c.requires.mapped lasts
           (g.met.E.Env.offers_now env c.requires.stands.1 c.requires.stands.3.played) c.requires.stands.3.going.stands c.gates.ensures.mask
-          c.requires.stands.3.stable c.requires.stands.3.last_is shown none c.requires.stands.4);
+          c.requires.stands.3.stable c.requires.stands.3.last_is shown unmarked none c.requires.stands.4);
       emitted = c.keep-count.ensures.room;
       put = ap (λ (b : Buffer ℕ). b.items) c.keep-count.ensures.store;
     } in
@@ -153,7 +154,7 @@ returns-clause-on g c same first rows long at =
       (λ d r. subst (λ (q : Row). Reached (course d m offer stalls c.args.cycle) (g.S.Shell.runs c.clock.new.self) (rows ++ q ∷ []))
           (sym kept)
           (clocked m given offer stalls c.args.cycle (g.S.Shell.runs c.args.shell.now) (g.E.Env.current env) c.gates.result rows row last
-          room c.requires.mapped lasts now at.going.stands c.gates.ensures.mask at.stable at.last_is shown
+          room c.requires.mapped lasts now at.going.stands c.gates.ensures.mask at.stable at.last_is shown unmarked
           (g.S.Shell.runs c.clock.new.self) (g.S.Shell.map c.look.new.shell) d (c.look.ensures.map ∙ c.requires.mapped)
           (λ s is. c.clock.ensures.next d s (row_before rows (length rows)) row
           (c.look.ensures.shown d s (row_before rows (length rows)) is).1
@@ -180,6 +181,7 @@ returns-in_err-give-clause-cut g c = on_err c.from_residual.result (λ first row
     let shown : (d : Design) (s : Values) (before : Option Row) → g.S.Shell.runs c.args.shell.now d s before
     → IsShown d given s before (offers_on m.channels (g.E.Env.current env)) c.gates.result row =
     λ d s before is. (c.look.ensures.shown d s before is).0 in
+    let unmarked = c.look.ensures.fresh ∙ c.requires.sizes.fresh.0 in
     let none = c.in_default.ensures in
     let cycle : Cycle m.channels (plan_of stalls) rows row room mid c.args.cells.now.store.items mixed = record {
       table = c.requires.table;
@@ -189,7 +191,7 @@ returns-in_err-give-clause-cut g c = on_err c.from_residual.result (λ first row
           (follows m given offer stalls c.args.cycle (g.S.Shell.runs c.args.shell.now) (g.E.Env.current env) c.gates.result
           c.requires.stands.1 row last room c.requires.mapped lasts
           (g.met.E.Env.offers_now env c.requires.stands.1 c.requires.stands.3.played) c.requires.stands.3.going.stands c.gates.ensures.mask
-          c.requires.stands.3.stable c.requires.stands.3.last_is shown none c.requires.stands.4);
+          c.requires.stands.3.stable c.requires.stands.3.last_is shown unmarked none c.requires.stands.4);
       emitted = c.keep-count.ensures.room;
       put = ap (λ (b : Buffer ℕ). b.items) c.keep-count.ensures.store;
     } in
@@ -203,7 +205,7 @@ returns-in_err-give-clause-cut g c = on_err c.from_residual.result (λ first row
       (λ d r. subst (λ (q : Row). Reached (course d m offer stalls c.args.cycle) (g.S.Shell.runs c.clock.new.self) (rows ++ q ∷ []))
           (sym kept)
           (clocked m given offer stalls c.args.cycle (g.S.Shell.runs c.args.shell.now) (g.E.Env.current env) c.gates.result rows row last
-          room c.requires.mapped lasts now at.going.stands c.gates.ensures.mask at.stable at.last_is shown
+          room c.requires.mapped lasts now at.going.stands c.gates.ensures.mask at.stable at.last_is shown unmarked
           (g.S.Shell.runs c.clock.new.self) (g.S.Shell.map c.look.new.shell) d (c.look.ensures.map ∙ c.requires.mapped)
           (λ s is. c.clock.ensures.next d s (row_before rows (length rows)) row
           (c.look.ensures.shown d s (row_before rows (length rows)) is).1
@@ -228,6 +230,7 @@ returns-in-Some-clause-sizes g c = record {
   offers_len = c.look.ensures.offers;
   places = sym (fit-length (all_widths c.args.map.now.channels) c.look.new.row.contents c.look.ensures.over.contents);
   over = c.requires.sizes.over;
+  fresh = (c.look.ensures.fresh ∙ c.requires.sizes.fresh.0, c.requires.sizes.fresh.1);
 }
 
 pub returns-clause-sizes : goal.returns-clause-sizes
@@ -240,7 +243,8 @@ returns-clause-sizes g c = sizes-next c.args.map.now.channels c.args.stalls.now.
     c.give.ensures.room.used c.requires.sizes.out_len (written-len _ c.give.new.out c.args.cells.now.out.items
     (c.give.auto.out ∙ ap length c.as_mut_slice.ensures.value) (sym (ap length c.as_mut_slice.ensures.value) ∙ c.as_mut_slice.ensures.len))
     c.look.ensures.offers
-    c.swap.ensures.x_after c.swap.ensures.y_after c.requires.sizes.over c.look.ensures.over
+    c.swap.ensures.x_after c.swap.ensures.y_after c.requires.sizes.over c.look.ensures.over c.requires.sizes.fresh.1
+    (c.look.ensures.fresh ∙ c.requires.sizes.fresh.0)
 
 pub returns-in_err-give-clause-sizes : goal.returns-in_err-give-clause-sizes
 returns-in_err-give-clause-sizes g c = sizes-next c.args.map.now.channels c.args.stalls.now.capacity c.give.new.store.capacity
@@ -252,4 +256,5 @@ returns-in_err-give-clause-sizes g c = sizes-next c.args.map.now.channels c.args
     c.give.ensures.room.used c.requires.sizes.out_len (written-len _ c.give.new.out c.args.cells.now.out.items
     (c.give.auto.out ∙ ap length c.as_mut_slice.ensures.value) (sym (ap length c.as_mut_slice.ensures.value) ∙ c.as_mut_slice.ensures.len))
     c.look.ensures.offers
-    c.swap.ensures.x_after c.swap.ensures.y_after c.requires.sizes.over c.look.ensures.over
+    c.swap.ensures.x_after c.swap.ensures.y_after c.requires.sizes.over c.look.ensures.over c.requires.sizes.fresh.1
+    (c.look.ensures.fresh ∙ c.requires.sizes.fresh.0)

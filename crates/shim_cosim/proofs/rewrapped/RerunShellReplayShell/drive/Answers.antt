@@ -1,10 +1,11 @@
 use Rattle.std.proofs.Common.{◌≡◌, ◌++◌, length, take, ap, ◌∙◌}
 use Rattle.net_design.specs.declared.design.Design.{Design}
 use Rattle.net_design.specs.Pins.{outputs, output_count}
+use Rattle.replay_run.specs.trace_model.declared.row.Row.{Row}
 use Rattle.replay_run.proofs.chan_monitor_lemmas.RowOfCycle.{refill-is}
 use Rattle.shim_cosim.specs.Rewrapped.{feed_inputs}
 use Rattle.shim_cosim.proofs.Recalls as calls
-use Rattle.shim_cosim.proofs.Rerun.{known_few, known_fit, known_long, known_many, known_shown, known_some}
+use Rattle.shim_cosim.proofs.Rerun.{known_few, known_fit, known_long, known_many, known_shown}
 use Rattle.shim_cosim.proofs.rewrapped.RerunShellReplayShell.drive.Goals as goal
 
 pub settle_feed-requires-clause-few : goal.settle_feed-requires-clause-few
@@ -24,11 +25,6 @@ settle_feed-requires-clause-fit g c ps small e =
     known_fit (g.B.Block.design s.block) (g.B.Block.state s.block) s.map.now s.first s.pins s.resets s.flight s.cycles s.running
     c.args.feed.now c.requires.feed small ps
     (e ∙ ap (λ xs. take s.first xs ++ feed_inputs s.map.now.channels c.args.feed.now) c.as_mut_slice.ensures.value)
-
-pub show_row-next-requires-clause-some : goal.show_row-next-requires-clause-some
-show_row-next-requires-clause-some g c =
-    let s = c.args.self.now in
-    known_some (g.B.Block.design s.block) (g.B.Block.state s.block) s.map.now s.first s.pins s.resets s.flight s.cycles s.running
 
 pub show_row-next-requires-clause-few : goal.show_row-next-requires-clause-few
 show_row-next-requires-clause-few g c =
@@ -70,7 +66,7 @@ returns-clause-over g c =
     calls.row_over (g.B.Block.design s.block) (g.B.Block.design c.settle_feed.new.block) (g.B.Block.state s.block) s.map.now s.first s.pins
     c.as_mut_slice.result.now c.settle_feed.new.pins s.resets s.flight s.cycles s.few (g.met.B.Block.is_state s.block)
     c.as_mut_slice.ensures.value c.settle_feed.ensures.design (g.B.Block.shown c.settle_feed.new.block) c.settle_feed.ensures.settled
-    c.args.feed.now c.requires.feed c.settle_feed.ensures.entered c.show_row-next.new.row c.show_row-next.ensures.row s.running
+    c.args.feed.now c.requires.feed c.settle_feed.ensures.entered c.args.row.now.fresh c.show_row-next.new.row c.show_row-next.ensures.row s.running
 
 pub returns-clause-row : goal.returns-clause-row
 returns-clause-row g c d u rows on =
@@ -78,7 +74,10 @@ returns-clause-row g c d u rows on =
     calls.row_shown (g.B.Block.design s.block) (g.B.Block.design c.settle_feed.new.block) (g.B.Block.state s.block) s.map.now s.first s.pins
     c.as_mut_slice.result.now c.settle_feed.new.pins s.resets s.flight s.cycles d u rows s.few (g.met.B.Block.is_state s.block)
     c.as_mut_slice.ensures.value c.settle_feed.ensures.design (g.B.Block.shown c.settle_feed.new.block) c.settle_feed.ensures.settled
-    c.args.feed.now c.requires.feed c.settle_feed.ensures.entered c.show_row-next.new.row c.show_row-next.ensures.row on
+    c.args.feed.now c.requires.feed c.settle_feed.ensures.entered c.args.row.now.fresh c.show_row-next.new.row c.show_row-next.ensures.row on
+
+pub returns-clause-fresh : goal.returns-clause-fresh
+returns-clause-fresh g c = ap (λ (row : Row). row.fresh) c.show_row-next.ensures.row
 
 pub returns-clause-runs : goal.returns-clause-runs
 returns-clause-runs g c d u rows on =
@@ -97,4 +96,4 @@ returns-clause-driven g c =
     (known_long (g.B.Block.design s.block) (g.B.Block.state s.block) s.map.now s.first s.pins s.resets s.flight s.cycles s.running)
     c.as_mut_slice.ensures.value c.settle_feed.ensures.design c.settle_feed.ensures.state c.settle_feed.ensures.inputs
     c.settle_feed.auto.pins (g.B.Block.shown c.settle_feed.new.block) c.settle_feed.ensures.settled c.args.feed.now c.requires.feed
-    c.settle_feed.ensures.entered c.show_row-next.new.row c.show_row-next.ensures.row c.show_row-next.result c.show_row-next.ensures.next
+    c.settle_feed.ensures.entered c.args.row.now.fresh c.show_row-next.new.row c.show_row-next.ensures.row c.show_row-next.result c.show_row-next.ensures.next

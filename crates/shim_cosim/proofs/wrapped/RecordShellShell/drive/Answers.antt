@@ -44,7 +44,7 @@ returns-clause-row g c d u before on =
     calls.row_shown (g.B.Block.design s.block) (g.B.Block.design c.settle_offers.new.block) (g.B.Block.state s.block) s.map.now s.first s.pins
     c.as_mut_slice.result.now c.settle_offers.new.pins s.resets d u before (g.met.B.Block.is_state s.block) c.as_mut_slice.ensures.value
     c.settle_offers.ensures.design (g.B.Block.shown c.settle_offers.new.block) c.settle_offers.ensures.settled c.args.offers.now c.args.gates
-    c.requires.offers c.requires.zeros c.requires.gates c.settle_offers.ensures.entered c.fill_row.new.row c.fill_row.ensures on
+    c.requires.offers c.requires.zeros c.requires.gates c.settle_offers.ensures.entered c.fill_row.new.row c.fill_row.ensures.made on
 
 pub returns-clause-runs : goal.returns-clause-runs
 returns-clause-runs g c d u before on =
@@ -62,6 +62,6 @@ returns-clause-driven g c =
           (g.B.Block.inputs c.settle_offers.new.block) (known_long s.running) c.as_mut_slice.ensures.value c.settle_offers.ensures.design
           c.settle_offers.ensures.state c.settle_offers.ensures.inputs c.settle_offers.auto.pins (g.B.Block.shown c.settle_offers.new.block)
           c.settle_offers.ensures.settled c.args.offers.now c.args.gates c.requires.offers c.requires.zeros c.requires.gates
-          c.settle_offers.ensures.entered c.fill_row.new.row c.fill_row.ensures,
+          c.settle_offers.ensures.entered c.fill_row.new.row c.fill_row.ensures.made,
       refl,
     )
