@@ -9,9 +9,9 @@ ghost use Rattle.text_page.specs.Pad.{shown, room, left};
 ghost use Rattle.report_text.specs.Text.{newline, spaced};
 ghost use Rattle.report_text.specs.Trace as said;
 
-use text_page::{Pad, Page, print_number, print_numbers};
 use itoa::Buffer;
 use run_model::trace_model::{Channel, Dir, Packet, Trace, names, split_content};
+use text_page::{Pad, Page, print_number, print_numbers};
 
 /// Prints the lines of a trace. `completed` counts each channel's completions so far, and `clock` holds the text of
 /// a packet's clock: for each channel a space and at most 20 digits.

@@ -138,11 +138,11 @@ told-is-read w is =
     let rest = row_lines w.nets 0 None w.rows in
     let top = scope-line w.top is.top in
     let whole : behind_line (text_of (time_line ∷ scope_line w.top ∷ body w)) ≡ text_of (scope_line w.top ∷ body w) =
-        line-back time_line (scope_line w.top ∷ body w) refl in
+    line-back time_line (scope_line w.top ∷ body w) refl in
     ap (λ ls. wave_of (text_of ls)) (same-lines w)
     ∙ ap (λ t. wave_with (word_at 2 (first_line t)) (read_nets [] [] (file_lines (behind_line t)))) whole
     ∙ ap (λ l. wave_with (word_at 2 l) (read_nets [] [] (file_lines (behind_line (text_of (scope_line w.top ∷ body w))))))
-        (line-front (scope_line w.top) (body w) top)
+    (line-front (scope_line w.top) (body w) top)
     ∙ ap (λ name. wave_with name (read_nets [] [] (file_lines (behind_line (text_of (scope_line w.top ∷ body w)))))) (scope-name w.top is.top)
     ∙ ap (λ t. wave_with w.top (read_nets [] [] (file_lines t))) (line-back (scope_line w.top) (body w) top)
     ∙ ap (λ ls. wave_with w.top (read_nets [] [] ls)) (lines-text (body w) (good-body w is))

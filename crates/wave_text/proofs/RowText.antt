@@ -54,7 +54,7 @@ changes-from (net ∷ nets) before row (a ∷ olds) (x ∷ xs) n d e g h =
     ap (λ b. cond (eqb b (get_or row n 0)) [] (net_text row (n, net)) ++ rest) (here-at before olds n a g)
     ∙ ap (λ y. cond (eqb a y) [] (value_line n net.width y ++ 10 ∷ []) ++ rest) (here-at row xs n x h)
     ∙ ap (λ t. cond (eqb a x) [] (value_line n net.width x ++ 10 ∷ []) ++ t)
-        (changes-from nets before row olds xs (n + 1) (omega (arith, d)) (omega (arith, e)) (next-at before olds n a g) (next-at row xs n x h))
+    (changes-from nets before row olds xs (n + 1) (omega (arith, d)) (omega (arith, e)) (next-at before olds n a g) (next-at row xs n x h))
     ∙ sym (text-cond (eqb a x) (value_line n net.width x) (changed_lines (n + 1) nets olds xs))
 
 pub changes-text : (nets : List WaveNet) (before row : List ℕ) → length before ≡ length nets → length row ≡ length nets

@@ -119,7 +119,12 @@ pub(crate) fn is_wave(alloc: Global, wave: &Wave) -> Result<bool, Memory>
     let nets = wave.nets.as_slice();
     let rows = wave.rows.as_slice();
     let top = is_token(TokenKind::Identifier, wave.top.as_slice());
-    if !top || nets.is_empty() || !are_nets(nets) || !all_fit(nets, rows) || !are_few(rows.len(), nets.len()) {
+    if !top
+        || nets.is_empty()
+        || !are_nets(nets)
+        || !all_fit(nets, rows)
+        || !are_few(rows.len(), nets.len())
+    {
         return Ok(false);
     }
     differ(alloc, nets)

@@ -105,7 +105,12 @@ fn is_mark(line: &[u8]) -> bool
 
 /// Reads a line: a mark ends the row that was read so far.
 #[tactic(auto, using(crate::proofs::ReadLines::length_noted))]
-fn read_line(alloc: Global, rows: &mut Grid, now: &mut Numbers, line: &[u8]) -> Result<(), WaveError>
+fn read_line(
+    alloc: Global,
+    rows: &mut Grid,
+    now: &mut Numbers,
+    line: &[u8],
+) -> Result<(), WaveError>
     requires { 0 < length now.old }
     ensures line { ReadsLine rows.old now.old line.now rows.new now.new result }
     ensures long { length now.new ≡ length now.old }

@@ -106,7 +106,13 @@ pub fn print_mark<P: Page>(page: &mut P, t: usize)
 }
 
 /// Prints row `t` with its mark: the numbers of the nets that aren't those of the row before, or all where there is none.
-pub fn print_row<P: Page>(page: &mut P, t: usize, nets: &[WaveNet], before: Option<&[u128]>, row: &[u128])
+pub fn print_row<P: Page>(
+    page: &mut P,
+    t: usize,
+    nets: &[WaveNet],
+    before: Option<&[u128]>,
+    row: &[u128],
+)
     requires long { IfSome before (λ numbers. length numbers.now ≡ length nets.now) }
     requires row { FitsRow nets.now row.now }
     ensures { P.went page.old page.new (said.text_of (said.mark t ∷ said.row_changes nets.now (option_copied before.entry) row.now)) }

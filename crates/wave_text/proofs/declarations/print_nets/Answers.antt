@@ -18,7 +18,7 @@ loop-n-preserved g c =
       (so_far.0 ++ text_of (moves (path_of at) (path_of net.name))) ++ (var_line c.loop-n.n net ++ 10 ∷ []),
       g.met.P.Page.onward _ _ _ _ _ (g.met.P.Page.onward _ _ _ _ _ so_far.1 moved) c.print_var.ensures,
       rw c.as_slice-at.ensures
-      (nets-more nets c.loop-n.n net at so_far.0 (text_of (net_lines [] 0 nets)) c.loop-n-test.true c.index-nets-n.is so_far.2),
+          (nets-more nets c.loop-n.n net at so_far.0 (text_of (net_lines [] 0 nets)) c.loop-n-test.true c.index-nets-n.is so_far.2),
     )
 
 pub returns : goal.returns

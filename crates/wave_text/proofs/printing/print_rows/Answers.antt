@@ -19,7 +19,7 @@ loop-t-preserved g c =
       so_far.0 ++ text_of (mark c.loop-t.t ∷ row_changes nets before row),
       g.met.P.Page.onward _ _ _ _ _ so_far.1 printed,
       rw c.as_slice-in-loop-t.ensures
-      (rows-more nets rows c.loop-t.t before row so_far.0 (text_of (row_lines nets 0 None rows)) c.loop-t-test.true c.index-rows-t.is so_far.2),
+          (rows-more nets rows c.loop-t.t before row so_far.0 (text_of (row_lines nets 0 None rows)) c.loop-t-test.true c.index-rows-t.is so_far.2),
       ap length (c.as_slice-in-loop-t.ensures ∙ c.index-rows-t.is) ∙ fits.long,
     )
 

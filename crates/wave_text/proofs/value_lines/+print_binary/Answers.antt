@@ -8,6 +8,6 @@ returns g t c =
     let n = c.args.x in
     let big : 2 ≤ n = omega (arith, c.if-x-lt2.false) in
     let digit : g.P.Page.went c.print_binary.new.page c.print_byte-2.new.page ((48 + n % 2) ∷ []) =
-        subst (λ (b : ℕ). g.P.Page.went c.print_binary.new.page c.print_byte-2.new.page (b ∷ [])) (omega arith) c.print_byte-2.ensures in
+    subst (λ (b : ℕ). g.P.Page.went c.print_binary.new.page c.print_byte-2.new.page (b ∷ [])) (omega arith) c.print_byte-2.ensures in
     subst (λ (x : List ℕ). g.P.Page.went c.args.page.now c.print_byte-2.new.page x) (sym (binary-more n big))
     (g.met.P.Page.onward _ _ _ _ _ c.print_binary.ensures digit)
