@@ -20,7 +20,7 @@ use Rattle.vec_clock.specs.trace_model.Clock.{Covers}
 use Rattle.vec_clock.specs.trace_model.Packet.{Fit, widths_of}
 use Rattle.vec_clock.specs.trace_model.Row.{all_widths, content_at, replaced}
 use Rattle.vec_clock.specs.trace_model.Mask.{IsLowest}
-use Rattle.vec_clock.proofs.trace_model_lemmas.MaskLemmas.{bit-from-has}
+use Rattle.vec_clock.proofs.trace_model_lemmas.MaskLemmas.{bit-from-has, has-from-bit}
 use Rattle.vec_clock.proofs.trace_model_lemmas.ContentsLemmas.{fit-length}
 use Rattle.vec_clock.proofs.trace_model_lemmas.RowLemmas.{first_of, first-more, first-within, content-read}
 use Rattle.chan_monitor.specs.run_model.Building.{joined}
@@ -30,31 +30,25 @@ use Rattle.chan_monitor.proofs.run_model_lemmas.JoinedLaws.{joined-more}
 use Rattle.chan_replayer.specs.declared.feed.Feed.{Feed}
 use Rattle.chan_replayer.specs.Feed.{need_of, IsFeedOver, IsUp}
 use Rattle.chan_replayer.specs.Fed.{fed_content, AreFed, AreOffered}
+use Rattle.chan_replayer.specs.Needs.{clock_at}
+use Rattle.chan_replayer.proofs.Sharing.{number-at}
 
 -- ---- one channel's clock in a feed
-pub clock-within : (n c : ℕ) → c < n → n * c + n ≤ n * n
-clock-within n c l =
-    let le : c + 1 ≤ n = omega (arith, l) in
-    let most = mul-le-mul_left n le in
-    omega (arith, most)
-
-pub up-is : (n : ℕ) (feed : Feed) (have own : List ℕ) (c : ℕ) (more r : Bool) → length have ≡ n → more ≡ has feed.more c
-    → own ≡ take n (drop (n * c) feed.needs)
-    → ((r ≡ true) ↔ ((more ≡ true) × Covers (length have) (λ d. get_or have d 0) (λ d. get_or own d 0)))
+pub up-is : (n : ℕ) (feed : Feed) (have : List ℕ) (c : ℕ) (r : Bool) → length have ≡ n
+    → ((r ≡ true) ↔ ((has feed.more c ≡ true) × Covers (length have) (λ d. get_or have d 0) (λ d. get_or (clock_at (length have) feed.needs c) d 0)))
     → (r ≡ true) ↔ IsUp n feed (λ d. get_or have d 0) c
-up-is n feed have own c more r long m o says =
-    let at : (d : ℕ) → d < n → get_or own d 0 ≡ need_of n feed c d =
-    λ d l. ap (λ (xs : List ℕ). get_or xs d 0) o ∙ get_or-take n (drop (n * c) feed.needs) d 0 l ∙ get_or-drop (n * c) feed.needs d 0 in (
-      λ t. (let p = says.0 t in
-          (sym m ∙ p.0, λ d l. (let a = at d l in let b = p.1 d (omega (arith, l, long)) in omega (arith, a, b)))),
+up-is n feed have c r long says =
+    let at : (d : ℕ) → d < length have → get_or (clock_at (length have) feed.needs c) d 0 ≡ need_of n feed c d =
+    λ d l. number-at (length have) feed.needs c d l ∙ ap (λ m. get_or feed.needs (m * c + d) 0) long in (
+      λ t. (let p = says.0 t in (p.0, λ d l. (let m : d < length have = omega (arith, l, long) in let a = at d m in let b = p.1 d m in omega (arith, a, b)))),
       λ (u : IsUp n feed (λ d. get_or have d 0) c).
-          says.1 (m ∙ u.0, λ d l. (let k : d < n = omega (arith, l, long) in let a = at d k in let b = u.1 d k in omega (arith, a, b))),
+          says.1 (u.0, λ d l. (let a = at d l in let b = u.1 d (omega (arith, l, long)) in omega (arith, a, b))),
     )
 
 -- ---- a mask of the channels of a direction
--- Of the channels that `more` names, those of `left` are still to be looked at.
-pub record AreMarked (channels : List Channel) (dir : Dir) (up : ℕ → Type 0) (more left mask : ℕ) : Type 0 where
-  pub within : (d : ℕ) → bit_at left d ≤ bit_at more d
+-- Those of `left` are up, and are still to be looked at.
+pub record AreMarked (channels : List Channel) (dir : Dir) (up : ℕ → Type 0) (left mask : ℕ) : Type 0 where
+  pub there : (d : ℕ) → bit_at left d ≡ 1 → (d < length channels) × up d
   pub low : (d : ℕ) → bit_at left d ≡ 1 → mask < 2 ^ d
   pub below : mask < 2 ^ length channels
   pub each : (d : ℕ) (x : Channel) → slice_get channels d ≡ Some x → bit_at left d ≡ 0 → (has mask d ≡ true) ↔ ((x.dir ≡ dir) × up d)
@@ -88,58 +82,46 @@ along a b e p = (λ t. p.0 (sym e ∙ t), λ q. e ∙ p.1 q)
 up-to : (c d : ℕ) → suc c ≤ d → 2 ^ suc c ≤ 2 ^ d
 up-to c d l = pow-le-pow_right (omega arith) l
 
--- a channel that is named is there
-pub named-there : (channels : List Channel) (dir : Dir) (up : ℕ → Type 0) (more left mask c others : ℕ) → more < 2 ^ length channels
-    → AreMarked channels dir up more left mask → IsLowest left c others → c < length channels
-named-there channels dir up more left mask c others small are is = ⊎_elim
-    (λ (l : c < length channels). l)
-    (λ (l : length channels ≤ c).
-    let none = bit_at_above more (length channels) c small l in
-    let most = are.within c in
-    let one = is.named in absurd (omega (arith, none, most, one)))
-    (cases_lt c (length channels))
+-- a channel that a mask of n channels names is there
+pub named-within : (mask n c : ℕ) → mask < 2 ^ n → has mask c ≡ true → c < n
+named-within mask n c small up = ⊎_elim
+    (λ (l : c < n). l)
+    (λ (l : n ≤ c). absurd (let z = bit_at_above mask n c small l in let o = bit-from-has mask c up in omega (arith, z, o)))
+    (cases_lt c n)
 
-pub marked-none : (channels : List Channel) (dir : Dir) (n : ℕ) (feed : Feed) (have : ℕ → ℕ)
-    → AreMarked channels dir (IsUp n feed have) feed.more feed.more 0
-marked-none channels dir n feed have = record {
-  within = λ d. omega arith;
-  low = λ d one. one-small d;
-  below = one-small (length channels);
+pub marked-none : (channels : List Channel) (dir : Dir) (up : ℕ → Type 0) (left : ℕ) → ((d : ℕ) → (has left d ≡ true) ↔ up d)
+    → ((d : ℕ) → up d → d < length channels) → AreMarked channels dir up left 0
+marked-none channels dir up left are within = record {
+  there = λ d one. (let u = (are d).0 (has-from-bit left d one) in (within d u, u));
+  low = λ d one. pow_pos d;
+  below = pow_pos (length channels);
   each = λ d x at none. (
     λ t. absurd (let z = bit_at-zero d in let o = bit-from-has 0 d t in omega (arith, z, o)),
-    λ (u : (x.dir ≡ dir) × IsUp n feed have d). absurd (let o = bit-from-has feed.more d u.1.0 in omega (arith, none, o)),
+    λ (u : (x.dir ≡ dir) × up d). absurd (let o = bit-from-has left d ((are d).1 u.1) in omega (arith, none, o)),
   );
 }
-  where
-    one-small : (d : ℕ) → 0 < 2 ^ d
-    one-small d = pow_pos d
-
--- a channel of a direction that is up
-pub up-of : (dir of : Dir) {P : Type 0} (up r : Bool) → ((r ≡ true) ↔ ((dir ≡ of) × (up ≡ true))) → ((up ≡ true) ↔ P) → (r ≡ true) ↔ ((dir ≡ of) × P)
-up-of dir of up r says is = (
-  λ t. (let p = says.0 t in (p.0, is.0 p.1)),
-  λ p. says.1 (p.0, is.1 p.1),
-)
 
 -- none is left
-pub all-marked : (channels : List Channel) (dir : Dir) (feed : Feed) (have : ℕ → ℕ) (more left mask : ℕ) → left ≡ 0
-    → AreMarked channels dir (IsUp (length channels) feed have) more left mask → AreOffered channels dir feed have mask
-all-marked channels dir feed have more left mask none are = record {
+pub all-marked : (channels : List Channel) (dir : Dir) (feed : Feed) (have : ℕ → ℕ) (left mask : ℕ) → left ≡ 0
+    → AreMarked channels dir (IsUp (length channels) feed have) left mask → AreOffered channels dir feed have mask
+all-marked channels dir feed have left mask none are = record {
   below = are.below;
   each = λ c x at. are.each c x at (ap (λ m. bit_at m c) none ∙ bit_at-zero c);
 }
 
-pub marked-more : (channels : List Channel) (dir : Dir) (up : ℕ → Type 0) (more left mask c others new : ℕ) (x : Channel) (b : Bool)
-    → more < 2 ^ length channels → IsLowest left c others → x ≡ get_or channels c x → ((b ≡ true) ↔ ((x.dir ≡ dir) × up c))
-    → new ≡ cond b 1 0 * 2 ^ c + mask → AreMarked channels dir up more left mask → AreMarked channels dir up more others new
-marked-more channels dir up more left mask c others new x b small is ex says n are =
-    let l = named-there channels dir up more left mask c others small are is in
+pub marked-more : (channels : List Channel) (dir : Dir) (up : ℕ → Type 0) (left mask c others new : ℕ) (x : Channel) (b : Bool)
+    → IsLowest left c others → x ≡ get_or channels c x → ((b ≡ true) ↔ (x.dir ≡ dir))
+    → new ≡ cond b 1 0 * 2 ^ c + mask → AreMarked channels dir up left mask → AreMarked channels dir up others new
+marked-more channels dir up left mask c others new x b is ex of n are =
+    let here = are.there c is.named in
+    let l = here.0 in
+    let says : (b ≡ true) ↔ ((x.dir ≡ dir) × up c) = (λ t. (of.0 t, here.1), λ both. of.1 both.0) in
     let low = are.low c is.named in
     let top : new < 2 ^ suc c = subst (λ m. m < 2 ^ suc c) (sym n) (one-below b c mask low) in
     record {
-      within = λ d. ⊎_elim
-          (λ (e : d ≡ c). let z : bit_at others d ≡ 0 = ap (bit_at others) e ∙ is.without in omega (arith, z))
-          (λ (ne : d ≡ c → ⊥). let s = is.same d ne in let w = are.within d in omega (arith, s, w))
+      there = λ d one. ⊎_elim
+          (λ (e : d ≡ c). absurd (let z : bit_at others d ≡ 0 = ap (bit_at others) e ∙ is.without in omega (arith, z, one)))
+          (λ (ne : d ≡ c → ⊥). are.there d (sym (is.same d ne) ∙ one))
           (cases_eq d c);
       low = λ d one. ⊎_elim
           (λ (e : d ≡ c). absurd (let z : bit_at others d ≡ 0 = ap (bit_at others) e ∙ is.without in omega (arith, z, one)))

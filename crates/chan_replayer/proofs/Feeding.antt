@@ -6,7 +6,6 @@ use Rattle.std.specs.Prelude.{◌↔◌}
 use Rattle.std.proofs.Math.Logic.{∥∥₁_elim, ∥∥₁_map}
 use Rattle.std.proofs.Props.{props}
 use Rattle.std.proofs.lemmas.Nat.{pow_pos}
-use Rattle.std.proofs.lemmas.Nat.Bits.{ones_shr}
 use Rattle.std.proofs.lemmas.Bool.{cases_Bool, cond-true, cond-false}
 use Rattle.vec_clock.specs.trace_model.declared.channel.Channel.{Channel}
 use Rattle.vec_clock.specs.trace_model.declared.channel.Dir.{Dir}
@@ -47,18 +46,8 @@ over m given runs offers gates row same running shown =
     subst (λ (b : Map). IsOver b.channels row) same (shown r.0 r.1 r.2 r.3).over)
 
 -- ---- the gates
-pub all-gates : (channels : List Channel) (n : ℕ) → n ≡ length channels → length channels ≤ 128
-    → (2 ^ 128 - 1) / 2 ^ (128 - n) ≡ all_up channels
-all-gates channels n e few =
-    let back : 128 - (128 - n) ≡ length channels = omega (arith, e, few) in
-    ones_shr 128 (128 - n) (omega arith) ∙ ap (λ k. 2 ^ k - 1) back
-
-pub gates-below : (channels : List Channel) (n : ℕ) → n ≡ length channels → length channels ≤ 128
-    → (2 ^ 128 - 1) / 2 ^ (128 - n) < 2 ^ length channels
-gates-below channels n e few =
-    let is = all-gates channels n e few in
-    let some = pow_pos (length channels) in
-    omega (arith, is, some)
+pub gates-below : (channels : List Channel) (gates : ℕ) → gates ≡ all_up channels → gates < 2 ^ length channels
+gates-below channels gates is = let some = pow_pos (length channels) in omega (arith, is, some)
 
 -- ---- before the first row
 pub none-yet : (n : ℕ) (have : List ℕ) → have ≡ replicate n 0 → (c : ℕ) → get_or have c 0 ≡ 0

@@ -1,3 +1,8 @@
+pub mod Pigeons
+pub mod Masks
+pub mod Sharing
+pub mod Places
+pub mod Covering
 pub mod Offering
 pub mod FedOffers
 pub mod Feeding

@@ -58,4 +58,4 @@ pub offered : (channels : List Channel) (packets : List Packet) (have : ℕ → 
 offered channels packets have row feed is fed c x at = offered-on channels packets have row c x.dir feed (is c x at) (fed c x at)
 
 pub fed-rows_replay : FedRowsReplay
-fed-rows_replay d m s packets rows feed row is shown = (offered m.channels packets (done rows) row feed is shown.fed, shown.gates_are)
+fed-rows_replay d m s packets rows feed row is shown fresh = (offered m.channels packets (done rows) row feed is shown.fed, shown.gates_are, fresh)

@@ -1,3 +1,4 @@
+pub mod Needs
 pub mod Feed
 pub mod Fed
 pub mod Shell

@@ -15,7 +15,7 @@ use crate::shell::ReplayShell;
 use chan_monitor::Shell;
 use chan_monitor::chan_map::Map;
 use std::alloc::Global;
-use vec_clock::trace_model::{Offers, Row, row_over};
+use vec_clock::trace_model::{Offers, Row, all_up, row_over};
 use vec_clock::vidi_bits::Memory;
 
 /// A shell behind replayers, with all gates up. Only `around` takes memory.
@@ -92,8 +92,7 @@ impl<'a, S: Shell> ReplayShell for FedShell<'a, S> {
     fn drive(&mut self, feed: &Feed, row: &mut Row) {
         let channels = &self.map.channels;
         fill_offers(&self.have, channels, feed, &mut self.offers);
-        let gates = u128::MAX >> (128 - channels.len());
-        self.shell.drive(&self.offers, gates, row);
+        self.shell.drive(&self.offers, all_up(channels.len()), row);
         self.ends = row.ends;
     }
 

@@ -1,9 +1,7 @@
 //! What replayers are fed.
 
-use vec_clock::vidi_bits::{Items, Numbers};
-
-/// The numbers of clocks.
-pub type Needs = Items<u32>;
+use crate::needs::Needs;
+use vec_clock::vidi_bits::Numbers;
 
 /// What replayers are told of the next event on each channel that they control: a start on an inward channel, a completion on
 /// an outward one.

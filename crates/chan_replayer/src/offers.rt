@@ -1,47 +1,44 @@
 //! The offers that replayers make of a feed.
 
-ghost use Rattle.std.specs.Prelude.{◌≡◌, ◌<◌, ◌≤◌, ◌+◌, ◌*◌, ◌^◌, ◌↔◌, ℕ, true, IsTrue, if◌then◌else◌, Some, length, replicate, slice_get, slice_index, take, drop};
+ghost use Rattle.std.specs.Prelude.{◌≡◌, ◌<◌, ◌≤◌, ◌+◌, ◌*◌, ◌^◌, ◌↔◌, ℕ, true, IsTrue, if◌then◌else◌, length, replicate, slice_index};
 ghost use Rattle.vec_clock.specs.vidi_bits.Number.{has};
-ghost use Rattle.vec_clock.specs.trace_model.declared.channel.Channel.{Channel as OneChannel};
+ghost use Rattle.vec_clock.specs.trace_model.Clock.{Covers};
 ghost use Rattle.vec_clock.specs.trace_model.Packet.{Fit};
 ghost use Rattle.vec_clock.specs.trace_model.Row.{all_widths, replaced};
 ghost use Rattle.chan_monitor.specs.run_model.Building.{joined};
-ghost use Rattle.chan_replayer.specs.Feed.{IsFeedOver, IsUp};
+ghost use Rattle.chan_replayer.specs.Feed.{IsFeedOver};
 ghost use Rattle.chan_replayer.specs.Fed.{fed_content, AreFed, AreOffered};
+ghost use Rattle.chan_replayer.specs.Needs.{clock_at};
 
 use crate::feed::Feed;
+use crate::needs::Needs;
 use crate::replayer::Replayer;
 use vec_clock::trace_model::{Channel, Channels, Dir, Offers, lowest, names, with_bit};
 
-/// The clock of the next event of channel `c`, one number a channel.
-fn needs_of(feed: &Feed, channels: usize, c: usize) -> &[u32]
-    requires channel { c < channels }
-    requires few { channels ≤ 128 }
-    requires needs { length feed.now.needs ≡ channels * channels }
-    ensures { result.now ≡ take channels (drop (channels * c) feed.now.needs) }
+/// The channels of `which` whose clock is covered: bit c is channel c. A clock that several channels have is compared once.
+fn covered(have: &Replayer, needs: &Needs, which: u128) -> u128
+    requires needs { length needs.now ≡ length have.now * length have.now }
+    requires which { which < 2 ^ length have.now }
+    ensures { (c : ℕ) → (has result c ≡ true) ↔ ((has which c ≡ true)
+        × Covers (length have.now) (slice_index have.now) (slice_index (clock_at (length have.now) needs.now c))) }
 {
-    let (_below, from) = feed.needs.as_slice().split_at(channels * c);
-    let (needs, _above) = from.split_at(channels);
-    needs
+    let mut covered = 0;
+    let mut left = which;
+    'left: while let Some((c, _others)) = lowest(left) {
+        let together = needs.together(c);
+        if have.offers(true, needs.clock(c)) {
+            covered |= left & together;
+        }
+        left &= !together;
+    }
+    covered
 }
 
-/// Whether the next event of channel `c` is there and covered.
-fn is_up(have: &Replayer, feed: &Feed, channels: usize, c: usize) -> bool
-    requires channel { c < channels }
-    requires few { channels ≤ 128 }
-    requires have { length have.now ≡ channels }
-    requires needs { length feed.now.needs ≡ channels * channels }
-    ensures { IsTrue result ↔ IsUp channels feed.now (slice_index have.now) c }
+/// Whether a direction is this one.
+fn is_of(dir: Dir, of: Dir) -> bool
+    ensures { IsTrue result ↔ (dir ≡ of) }
 {
-    let more = names(feed.more, c);
-    have.offers(more, needs_of(feed, channels, c))
-}
-
-/// Whether a channel of direction `dir` is up and of direction `of`.
-fn is_up_of(up: bool, dir: Dir, of: Dir) -> bool
-    ensures { IsTrue result ↔ (dir ≡ of) × (up ≡ true) }
-{
-    dir == of && up
+    dir == of
 }
 
 /// What is offered: the inward channels whose valid is up, and the outward ones whose ready is. Bit c is channel c.
@@ -62,12 +59,11 @@ fn offered(have: &Replayer, channels: &[Channel], feed: &Feed) -> Raised
 {
     let mut valids = 0;
     let mut readies = 0;
-    let mut left = feed.more;
-    'more: while let Some((c, others)) = lowest(left) {
-        let up = is_up(have, feed, channels.len(), c);
+    let mut left = covered(have, &feed.needs, feed.more);
+    'up: while let Some((c, others)) = lowest(left) {
         let dir = channels[c].dir;
-        valids = with_bit(valids, c, is_up_of(up, dir, Dir::Inward));
-        readies = with_bit(readies, c, is_up_of(up, dir, Dir::Outward));
+        valids = with_bit(valids, c, is_of(dir, Dir::Inward));
+        readies = with_bit(readies, c, is_of(dir, Dir::Outward));
         left = others;
     }
     Raised { valids, readies }

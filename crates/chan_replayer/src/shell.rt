@@ -1,6 +1,7 @@
 //! Designs that replayers drive.
 
 ghost use Rattle.std.specs.Prelude.{◌≡◌, ◌+◌, ◌<◌, ℕ, [], List};
+ghost use Rattle.vec_clock.specs.trace_model.declared.packet.TheConstants.{MOST_CYCLES};
 ghost use Rattle.vec_clock.specs.trace_model.declared.row.Row.{Row};
 ghost use Rattle.vec_clock.specs.trace_model.Row.{IsOver};
 ghost use Rattle.net_design.specs.declared.design.Design.{Design};
@@ -40,22 +41,24 @@ pub trait ReplayShell {
         ensures map { map self.new ≡ map self.old };
 
     /// Settles everything for what replayers offer under this feed, and fills the row: under the feed of a trace it is the row
-    /// of *IsReplay*. The row has a place for each port's number, as `row_over` makes it.
+    /// of *IsReplay*. Whether the row is fresh is the caller's to say, and stays. The row has a place for each port's number, as `row_over`
+    /// makes it.
     fn drive(&mut self, feed: &Feed, row: &mut Row)
         requires feed { IsFeedOver (map self.old).channels feed.now }
         requires places { HasPlaces (map self.old).channels row.old }
         ensures over { IsOver (map self.old).channels row.new }
         ensures row { (d : Design) (s : Values) (rows : List Row) → runs self.old d s rows → IsShown d (map self.old) s rows feed.now row.new }
+        ensures fresh { row.new.fresh ≡ row.old.fresh }
         ensures runs { (d : Design) (s : Values) (rows : List Row) → runs self.old d s rows → runs self.new d s rows }
         ensures driven { driven self.new row.new }
         ensures cycles { cycles self.new ≡ cycles self.old }
         ensures map { map self.new ≡ map self.old };
 
     /// Commits the cycle of the last `drive`, since which there was no `clock` and no `reset`: the state becomes the next one, and
-    /// the row joins those before. At most 50,000 cycles follow one another without a reset.
+    /// the row joins those before. At most `MOST_CYCLES` cycles follow one another without a reset.
     fn clock(&mut self)
         requires driven { (row : Row) × driven self.old row }
-        requires few { cycles self.old < 50000 }
+        requires few { cycles self.old < MOST_CYCLES }
         ensures next { (d : Design) (s : Values) (rows : List Row) (row : Row) → runs self.old d s rows → driven self.old row
             → GoesTo (runs self.new) d (map self.old) s rows row }
         ensures cycles { cycles self.new ≡ cycles self.old + 1 }

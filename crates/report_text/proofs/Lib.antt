@@ -1,7 +1,6 @@
 pub mod Lines
 pub mod Clocks
 pub mod Packets
-pub mod Printed
 pub mod RowLines
 mod ShortExamples
-pub use Rattle.vidi_io.proofs as vidi_io_lemmas
+pub use Rattle.text_page.proofs.vidi_io_lemmas as vidi_io_lemmas

@@ -4,7 +4,7 @@ use Rattle.std.proofs.Common.{slice_get, codes, decimal, refl, sym, ap, ◌∙�
 use Rattle.std.proofs.lemmas.List.{take_more, drop-drop, append-nil, length-append}
 use Rattle.std.proofs.lemmas.Option.{slice_get_read}
 use Rattle.std.proofs.lemmas.List.Concat.{flat_map-append}
-use Rattle.vidi_io.specs.vidi_bits.Number.{has}
+use Rattle.text_page.specs.vidi_io.vidi_bits.Number.{has}
 use Rattle.run_model.specs.trace_model.declared.channel.Channel.{Channel}
 use Rattle.run_model.specs.trace_model.declared.row.Row.{Row}
 use Rattle.run_model.specs.trace_model.Packet.{widths_of}

@@ -2,11 +2,10 @@ pub mod Text
 pub mod Report
 pub mod Reason
 pub mod Trace
-pub mod Pad
-pub mod Draft
-pub mod Printing
-pub mod PrintingLaws
 pub mod Rows
 pub mod Short
 pub use Rattle.trace_compare.specs as trace_compare
-pub use Rattle.vidi_io.specs as vidi_io
+pub use Rattle.text_page.specs.Pad as Pad
+pub use Rattle.text_page.specs.Draft as Draft
+pub use Rattle.text_page.specs.Printing as Printing
+pub use Rattle.text_page.specs.vidi_io as vidi_io

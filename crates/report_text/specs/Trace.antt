@@ -1,7 +1,7 @@
 -- The lines of a trace (this project's profile).
 use Rattle.std.specs.Prelude.{ℕ, List, [], ◌++◌, length, map, codes, decimal, if◌then◌else◌}
 use Rattle.std.specs.List.{flat_map, enumerate_from, range_with_len}
-use Rattle.vidi_io.specs.vidi_bits.Number.{has}
+use Rattle.text_page.specs.vidi_io.vidi_bits.Number.{has}
 use Rattle.run_model.specs.trace_model.declared.channel.Channel.{Channel}
 use Rattle.run_model.specs.trace_model.declared.channel.Dir.{Dir}
 use Rattle.run_model.specs.trace_model.declared.channel.Dir.TheVariants.{Inward, Outward}

@@ -1,12 +1,8 @@
 //! Printed texts, piece by piece: the lines of traces, findings and refusals. `specs/` spells them.
 //!
-//! A long text is printed on a `Page`: in memory (`Draft`), or on a sink through a pad of one size (`Printer`).
+//! A long text is printed on a `Page` of `text_page`.
 #![tactic(auto)]
 
-mod draft;
-mod pad;
-mod page;
-mod printer;
 mod reason;
 mod report;
 mod row_lines;
@@ -15,15 +11,12 @@ mod text;
 mod trace_lines;
 mod trace_text;
 
-pub use draft::Draft;
-pub use pad::Pad;
-pub use page::{Page, print_number, print_numbers};
 pub use reason::{Reason, Word, read_fault_line, reason_line};
 pub use report::report_lines;
 pub use row_lines::{RunLines, rows_text};
 pub use run_model::vidi_lines;
 pub use short::short_lines;
 pub use text::{put, put_number};
+pub use text_page::{Draft, Pad, Page, print_number, print_numbers, vidi_io};
 pub use trace_compare;
 pub use trace_lines::{TraceLines, dump_text};
-pub use vidi_io;

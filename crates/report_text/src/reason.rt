@@ -8,7 +8,7 @@ use crate::text::{put, put_number, put_numbers};
 use itoa::Integer;
 use run_model::chan_map::MapLimit;
 use std::alloc::Global;
-use vidi_io::vidi_bits::{Bytes, Items, Memory, Name};
+use text_page::vidi_io::vidi_bits::{Bytes, Items, Memory, Name};
 use vlog_elab::Big;
 
 /// A file among a command's words.

@@ -6,8 +6,8 @@ ghost use Rattle.report_text.specs.Report as said;
 use crate::text::{put, put_number};
 use run_model::trace_model::{Channel, Channels};
 use std::alloc::Global;
+use text_page::vidi_io::vidi_bits::{Bytes, Memory};
 use trace_compare::{Finding, Report, What};
-use vidi_io::vidi_bits::{Bytes, Memory};
 
 /// The lines of findings on these channels, one each.
 pub fn report_lines(alloc: Global, report: &Report, channels: &Channels) -> Result<Bytes, Memory>

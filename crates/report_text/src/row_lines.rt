@@ -2,21 +2,18 @@
 
 ghost use Rattle.std.specs.Prelude.{◌≡◌, ◌++◌, [], codes, decimal, if◌then◌else◌, IfOk, OnOk, OnErr, length, take, drop};
 ghost use Rattle.std.specs.Io.KnownBytes.{append_known};
-ghost use Rattle.report_text.specs.Pad.{shown};
-ghost use Rattle.vidi_io.specs.Cause.{HasCause};
-ghost use Rattle.vidi_io.specs.Sink.{AppendsSome, Frame};
+ghost use Rattle.text_page.specs.Pad.{shown};
+ghost use Rattle.text_page.specs.vidi_io.Cause.{HasCause};
+ghost use Rattle.text_page.specs.vidi_io.Sink.{AppendsSome, Frame};
 ghost use Rattle.report_text.specs.Rows as said;
 ghost use Rattle.report_text.specs.Text.{newline, spaced};
 
-use crate::draft::Draft;
-use crate::pad::{PAD_BYTES, Pad};
-use crate::page::{Page, print_number, print_numbers};
-use crate::printer::Printer;
 use crate::trace_text::print_end;
 use run_model::trace_model::{Channel, Channels, Row, Rows, names, split_content};
 use std::alloc::Global;
-use vidi_io::vidi_bits::{Bytes, Memory};
-use vidi_io::{Failed, Sink};
+use text_page::vidi_io::vidi_bits::{Bytes, Memory};
+use text_page::vidi_io::{Failed, Sink};
+use text_page::{Draft, PAD_BYTES, Pad, Page, Printer, print_number, print_numbers};
 
 /// The lines that `run` prints of its rows, without the last line.
 pub fn rows_text(alloc: Global, rows: &Rows, channels: &Channels) -> Result<Bytes, Memory>

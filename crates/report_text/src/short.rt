@@ -9,7 +9,7 @@ use crate::text::{put, put_number};
 use run_model::trace_model::{Channel, Channels, Event, Events, Kind};
 use run_model::{Await, Held, Helds};
 use std::alloc::Global;
-use vidi_io::vidi_bits::{Bytes, Memory};
+use text_page::vidi_io::vidi_bits::{Bytes, Memory};
 
 /// The lines of a replay that is short after so many cycles: what it holds back with what that awaits, and what it waits for.
 pub fn short_lines(

@@ -4,7 +4,7 @@ ghost use Rattle.std.specs.Prelude.{◌≡◌, ◌∷◌, ◌++◌, OnOk};
 ghost use Rattle.std.specs.List.{flat_map};
 
 use itoa::{Buffer, Integer};
-use vidi_io::vidi_bits::Memory;
+use text_page::vidi_io::vidi_bits::Memory;
 
 /// Adds bytes.
 pub fn put(text: &mut Vec<u8>, piece: &[u8]) -> Result<(), Memory>

@@ -2,19 +2,17 @@
 
 ghost use Rattle.std.specs.Prelude.{◌≡◌, ◌+◌, ◌*◌, ◌≤◌, [], length, replicate, IfOk, OnOk, OnErr, IfSome};
 ghost use Rattle.std.specs.Io.KnownBytes.{append_known};
-ghost use Rattle.report_text.specs.Pad.{room, shown};
+ghost use Rattle.text_page.specs.Pad.{room, shown};
 ghost use Rattle.report_text.specs.Trace as said;
-ghost use Rattle.vidi_io.specs.Cause.{HasCause};
-ghost use Rattle.vidi_io.specs.Sink.{AppendsSome, Frame};
+ghost use Rattle.text_page.specs.vidi_io.Cause.{HasCause};
+ghost use Rattle.text_page.specs.vidi_io.Sink.{AppendsSome, Frame};
 
-use crate::draft::Draft;
-use crate::pad::{PAD_BYTES, Pad};
-use crate::printer::Printer;
 use crate::trace_text::print_trace;
 use run_model::trace_model::Trace;
 use std::alloc::Global;
-use vidi_io::vidi_bits::{Bytes, Memory};
-use vidi_io::{Failed, Sink};
+use text_page::vidi_io::vidi_bits::{Bytes, Memory};
+use text_page::vidi_io::{Failed, Sink};
+use text_page::{Draft, PAD_BYTES, Pad, Printer};
 
 /// How many bytes the text of a clock of so many channels has at most.
 fn clock_bytes(channels: usize) -> Option<usize>

@@ -5,14 +5,13 @@ ghost use Rattle.std.specs.Prelude.{take, drop, replicate};
 ghost use Rattle.std.specs.Prelude.{slice_index, codes, decimal};
 ghost use Rattle.std.specs.Int.{bit_at};
 ghost use Rattle.std.specs.List.{flat_map, enumerate_from};
-ghost use Rattle.report_text.specs.Pad.{shown, room, left};
+ghost use Rattle.text_page.specs.Pad.{shown, room, left};
 ghost use Rattle.report_text.specs.Text.{newline, spaced};
 ghost use Rattle.report_text.specs.Trace as said;
 
-use crate::pad::Pad;
-use crate::page::{Page, print_number, print_numbers};
 use itoa::Buffer;
 use run_model::trace_model::{Channel, Dir, Packet, Trace, names, split_content};
+use text_page::{Pad, Page, print_number, print_numbers};
 
 /// Prints the lines of a trace. `completed` counts each channel's completions so far, and `clock` holds the text of
 /// a packet's clock: for each channel a space and at most 20 digits.

@@ -1,5 +1,5 @@
 -- What a replay offers, in the manner of the code, is what *IsReplay* asks for.
-use Rattle.std.proofs.Common.{◌≡◌, ◌↔◌, ℕ, zero, suc, ◌+◌, ◌-◌, ◌<◌, ◌≤◌, Bool, true, false, cond, ltb, List, [], ◌∷◌, ◌++◌}
+use Rattle.std.proofs.Common.{◌≡◌, ◌↔◌, ℕ, zero, suc, ◌+◌, ◌<◌, ◌≤◌, Bool, true, false, cond, ltb, List, [], ◌∷◌, ◌++◌}
 use Rattle.std.proofs.Common.{Option, Some, None, length, slice_get, ⊎_elim, refl, ap, sym, subst, ◌∙◌, arith}
 use Rattle.std.specs.Prelude.{is_some}
 use Rattle.std.specs.List.{enumerate_from, flat_map}
@@ -200,8 +200,8 @@ feed-allows channels packets rows fit row carries c x at = feed-on channels pack
 pub replay-grow : (d : Design) (m : Map) (packets : List Packet) → ContentsFit m.channels packets → (rows : List Row) (s : Values)
     → Grown d m (IsReplayRow m.channels packets) rows s → (offers : Offers) → offers ≡ feed m.channels packets rows → (gates : ℕ)
     → gates ≡ all_up m.channels → (row : Row) (after : Values) → Stepped d m (row_before rows (length rows)) offers gates s row after
-    → row.gates ≡ gates → Grown d m (IsReplayRow m.channels packets) (rows ++ row ∷ []) after
-replay-grow d m packets fit rows s grown offers o gates up row after st g =
+    → row.gates ≡ gates → row.fresh ≡ false → Grown d m (IsReplayRow m.channels packets) (rows ++ row ∷ []) after
+replay-grow d m packets fit rows s grown offers o gates up row after st g fresh =
     played-push d m (IsReplayRow m.channels packets) rows row after grown.played
-    (feed-allows m.channels packets rows fit row (subst (λ (x : Offers). Carries m.channels x row) o st.carried), g ∙ up) st.over st.marked
+    (feed-allows m.channels packets rows fit row (subst (λ (x : Offers). Carries m.channels x row) o st.carried), g ∙ up, fresh) st.over st.marked
     (subst (λ u. IsStep d m u row after) (sym grown.state) st.step)

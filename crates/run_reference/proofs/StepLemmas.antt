@@ -43,12 +43,12 @@ plugs-length d m is = zip-length (IsPlug d) m.channels m.plugs is.plugs
 -- ---- the offers alone enter what the row enters
 abbrev pub asked : Offers → ℕ → Row
 asked offers gates = record {
+  fresh = false;
   gates = gates;
   valids = offers.valids;
   readies = offers.readies;
   contents = offers.contents;
-  starts =
-      0;
+  starts = 0;
   ends = 0;
 }
 
@@ -108,14 +108,14 @@ pub record Stepped (d : Design) (m : Map) (before : Option Row) (offers : Offers
 stepped-row : (d : Design) (m : Map) → PortsAreNets d → IsMapOf d m → (before : Option Row) (offers : Offers) → AreOffers m.channels offers
     → (gates : ℕ) → gates < 2 ^ length m.channels → (s : Values) (pins : List ℕ) (v : Values) → ArePins d m false (asked offers gates) pins
     → IsSettled d s pins v → (after : Values) → after ≡ next d v s
-    → Stepped d m before offers gates s (row_of m before offers gates (outputs d v)) after
+    → Stepped d m before offers gates s (row_of m false before offers gates (outputs d v)) after
 stepped-row d m nets is before offers are gates l s pins v pins-are settled after after-is =
     let fits = fit-outputs d nets v settled.keeps.fit in
-    let row = row_of m before offers gates (outputs d v) in
-    let carries = row-carries d m is before offers are gates (outputs d v) fits in
+    let row = row_of m false before offers gates (outputs d v) in
+    let carries = row-carries d m is false before offers are gates (outputs d v) fits in
     record {
-      over = row-over d m is before offers are gates l (outputs d v) fits;
-      marked = row-marked m before offers gates (outputs d v);
+      over = row-over d m is false before offers are gates l (outputs d v) fits;
+      marked = row-marked m false before offers gates (outputs d v);
       carried = carries;
       step = record {
         pins = pins;
@@ -126,7 +126,7 @@ stepped-row d m nets is before offers are gates l s pins v pins-are settled afte
               (entered-asked m offers gates row refl carries) pins-are.numbers;
         };
         settled = settled;
-        shown = row-shows d m is before offers are gates (outputs d v) fits;
+        shown = row-shows d m is false before offers are gates (outputs d v) fits;
         next = after-is;
       };
     }
@@ -148,11 +148,11 @@ settles d e de s t ts pins i ip v after settled clocks =
 pub stepped : (d : Design) (m : Map) → PortsAreNets d → IsMapOf d m → (before : Option Row) (offers : Offers) → AreOffers m.channels offers
     → (gates : ℕ) → gates < 2 ^ length m.channels → (s : Values) (pins : List ℕ) (v after : Values)
     → ArePins d m false (asked offers gates) pins
-    → Settles d s pins v after → (e : Design) → e ≡ d → (row : Row) → row ≡ row_of m before offers gates (outputs e v)
+    → Settles d s pins v after → (e : Design) → e ≡ d → (row : Row) → row ≡ row_of m false before offers gates (outputs e v)
     → Stepped d m before offers gates s row after
 stepped d m nets is before offers are gates l s pins v after pins-are settles e de row row-is =
     subst (λ (r : Row). Stepped d m before offers gates s r after)
-    (sym (row-is ∙ ap (λ f. row_of m before offers gates (outputs f v)) de))
+    (sym (row-is ∙ ap (λ f. row_of m false before offers gates (outputs f v)) de))
     (stepped-row d m nets is before offers are gates l s pins v pins-are settles.settled after settles.next)
 
 -- ---- cycles with the same inputs
@@ -172,11 +172,11 @@ pub run-grow : (d : Design) (m : Map) (offers : List Offers) (gates : List ℕ) 
     → Grown d m (IsRunRow m.channels (offers_by offers) (GatesOf (gates_by gates))) rows s
     → (offer : Offers) (g : ℕ) (row : Row) (after : Values)
     → offer ≡ offers_by offers rows → g ≡ gates_by gates rows → Stepped d m (row_before rows (length rows)) offer g s row after
-    → row.gates ≡ g
+    → row.gates ≡ g → row.fresh ≡ false
     → Grown d m (IsRunRow m.channels (offers_by offers) (GatesOf (gates_by gates))) (rows ++ row ∷ []) after
-run-grow d m offers gates rows s grown offer g row after o k st gates-are =
+run-grow d m offers gates rows s grown offer g row after o k st gates-are fresh =
     played-push d m (IsRunRow m.channels (offers_by offers) (GatesOf (gates_by gates))) rows row after grown.played
-    (subst (λ (x : Offers). Carries m.channels x row) o st.carried, gates-are ∙ k) st.over st.marked
+    (subst (λ (x : Offers). Carries m.channels x row) o st.carried, gates-are ∙ k, fresh) st.over st.marked
     (subst (λ u. IsStep d m u row after) (sym grown.state) st.step)
 
 pub offer-here : (offers : List Offers) (rows : List Row) (t : ℕ) (offer : Offers) → length rows ≡ t → slice_get offers t ≡ Some offer

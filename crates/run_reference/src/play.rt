@@ -1,6 +1,6 @@
 //! Runs of a block, cycle by cycle.
 
-ghost use Rattle.std.specs.Prelude.{◌≡◌, ◌<◌, ◌^◌, ℕ, [], All, length, IfOk, OnOk};
+ghost use Rattle.std.specs.Prelude.{◌≡◌, ◌<◌, ◌^◌, ℕ, [], All, false, length, IfOk, OnOk};
 ghost use Rattle.run_model.specs.trace_model.Row.{row_before, AreOffers, IsOver, IsMarked};
 ghost use Rattle.net_design.specs.Pins.{FitPins};
 ghost use Rattle.run_model.specs.Building.{PortsAreNets};
@@ -25,6 +25,7 @@ fn silent(alloc: Global) -> Row
     ensures { result ≡ silent }
 {
     Row {
+        fresh: false,
         gates: 0,
         valids: 0,
         readies: 0,
@@ -37,6 +38,7 @@ fn silent(alloc: Global) -> Row
 /// A row of what is offered, with nothing that the block shows.
 fn offered(alloc: Global, offers: &Offers, gates: u128) -> Result<Row, Memory>
     ensures { IfOk result (λ row. row ≡ record {
+      fresh = false;
       gates = gates;
       valids = offers.now.valids;
       readies = offers.now.readies;
@@ -47,6 +49,7 @@ fn offered(alloc: Global, offers: &Offers, gates: u128) -> Result<Row, Memory>
 {
     let contents = Vec::from_slice(alloc, offers.contents.as_slice())?;
     Ok(Row {
+        fresh: false,
         gates,
         valids: offers.valids,
         readies: offers.readies,
@@ -103,6 +106,7 @@ pub(crate) fn step<B: Block>(
     ensures marked { IfOk result (λ row. IsMarked (row_before before.now (length before.now)) row) }
     ensures carried { IfOk result (λ row. Carries map.now.channels offers.now row) }
     ensures gates { IfOk result (λ row. row.gates ≡ gates) }
+    ensures fresh { IfOk result (λ row. row.fresh ≡ false) }
     ensures step { IfOk result (λ row. IsStep (B.design block.old) map.now (B.state block.old) row (B.state block.new)) }
     ensures design { B.design block.new ≡ B.design block.old }
 {

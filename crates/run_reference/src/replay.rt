@@ -7,18 +7,17 @@ ghost use Rattle.run_model.specs.trace_model.Packet.{IsPacket, widths_of, widths
 ghost use Rattle.run_model.specs.trace_model.declared.event.Kind.TheVariants.{Start};
 ghost use Rattle.run_model.specs.Building.{PortsAreNets, mask_of, joined};
 ghost use Rattle.run_model.specs.MapOf.{IsMapOf};
-ghost use Rattle.run_model.specs.Played.{all_up};
 ghost use Rattle.run_model.specs.Replay.{IsReplay};
 ghost use Rattle.run_reference.specs.Feed.{covered_place, is_offered, content_in, feed};
 
 use crate::pins::{first_place, port_count};
 use crate::play::{reset, step};
 use crate::row::{part, push_all};
-use crate::waiting::{awaits, packet_place, shown};
+use crate::waiting::{awaits, event, packet_place, shown};
 use net_design::Block;
 use run_model::chan_map::Map;
 use run_model::trace_model::{
-    Channel, Event, Kind, Offers, Packet, Row, Rows, names, push_zeros, with_bit,
+    Channel, Kind, Offers, Packet, Row, Rows, all_up, names, push_zeros, with_bit,
 };
 use run_model::vidi_bits::{Memory, Numbers};
 use std::alloc::Global;
@@ -38,12 +37,7 @@ fn covered_place(
     ensures { IfOk result (λ place. place ≡ covered_place channels.now packets.now rows.now kind c) }
 {
     let index = shown(rows, Kind::End, c);
-    let event = Event {
-        channel: c,
-        kind,
-        index,
-    };
-    match packet_place(packets, event) {
+    match packet_place(packets, event(c, kind, index)) {
         None => Ok(None),
         Some(place) => {
             let found = awaits(alloc, channels, packets, rows, place)?;
@@ -182,19 +176,6 @@ pub(crate) fn feed(
     })
 }
 
-/// The mask of all channels.
-fn all_up(channels: &[Channel]) -> u128
-    requires few { length channels.now ≤ 128 }
-    ensures { result ≡ all_up channels.now }
-{
-    let count = channels.len();
-    if count == 128 {
-        u128::MAX
-    } else {
-        (1 << count) - 1
-    }
-}
-
 /// The first rows of the block's replay of these packets, as many as cycles. The block is of the map's design.
 pub fn replay_rows<B: Block>(
     alloc: Global,
@@ -213,7 +194,7 @@ pub fn replay_rows<B: Block>(
 {
     reset(alloc, block, map)?;
     let channels = map.channels.as_slice();
-    let gates = all_up(channels);
+    let gates = all_up(channels.len());
     let mut rows = Rows::new(alloc);
     for _t in 0..cycles {
         let offers = feed(alloc, channels, packets, rows.as_slice())?;

@@ -1,10 +1,10 @@
 //! The row that a block shows.
 
 ghost use Rattle.std.specs.Prelude.{◌≡◌, ◌<◌, ◌+◌, ◌*◌, ◌≤◌, ◌&&◌, ◌++◌, map, take, drop, length};
-ghost use Rattle.std.specs.Prelude.{slice_index, IfOk, OnOk};
+ghost use Rattle.std.specs.Prelude.{false, slice_index, IfOk, OnOk};
 ghost use Rattle.std.specs.List.{AllZip};
 ghost use Rattle.run_model.specs.trace_model.Channel.{IsTable};
-ghost use Rattle.run_model.specs.trace_model.Row.{is_in_flight, row_before};
+ghost use Rattle.run_model.specs.trace_model.Row.{row_before};
 ghost use Rattle.net_design.specs.Pins.{outputs};
 ghost use Rattle.run_model.specs.chan_map.declared.pins.Pin.{Pin};
 ghost use Rattle.run_model.specs.chan_map.Bound.{IsPin, IsPlug};
@@ -15,10 +15,12 @@ ghost use Rattle.run_model.specs.Held.{flies};
 ghost use Rattle.run_model.specs.MapOf.{IsMapOf};
 ghost use Rattle.run_model.specs.Offers.{offered_content};
 
-use crate::pins::{first_place, port_count, sink_valid};
+use crate::pins::{first_place, port_count};
 use net_design::Block;
 use run_model::chan_map::{Map, Pin, Plug};
-use run_model::trace_model::{Channel, Dir, Offers, Row, names, push_zeros, with_bit};
+use run_model::trace_model::{
+    Channel, Dir, Offers, Row, is_in_flight, names, push_zeros, with_bit,
+};
 use run_model::vidi_bits::{Memory, Numbers};
 use std::alloc::Global;
 
@@ -26,13 +28,6 @@ fn all_three(a: bool, b: bool, c: bool) -> bool
     ensures { result ≡ ((a && b) && c) }
 {
     a && b && c
-}
-
-/// Whether channel `c` is in flight after a row.
-fn is_in_flight(row: &Row, c: usize) -> bool
-    ensures { result ≡ is_in_flight row.now c }
-{
-    sink_valid(row, c) && !names(row.readies, c)
 }
 
 /// Whether channel `c` is in flight after these rows.
@@ -256,7 +251,7 @@ pub(crate) fn shown_row<B: Block>(
     gates: u128,
 ) -> Result<Row, Memory>
     requires { IsMapOf (B.design block.now) map.now }
-    ensures { IfOk result (λ row. row ≡ row_of map.now (row_before before.now (length before.now)) offers.now gates
+    ensures { IfOk result (λ row. row ≡ row_of map.now false (row_before before.now (length before.now)) offers.now gates
         (outputs (B.design block.now) (B.shown block.now))) }
 {
     let contents = contents(alloc, block, map, offers)?;
@@ -264,6 +259,7 @@ pub(crate) fn shown_row<B: Block>(
     let valids = valids(block, map, offers);
     let readies = readies(block, map, offers);
     Ok(Row {
+        fresh: false,
         gates,
         valids,
         readies,

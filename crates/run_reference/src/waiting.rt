@@ -24,6 +24,7 @@ fn does(packet: &Packet, kind: Kind, c: usize) -> bool
     match kind {
         Kind::Start => names(packet.starts, c),
         Kind::End => names(packet.ends, c),
+        Kind::Reset => packet.reset,
     }
 }
 
@@ -34,6 +35,19 @@ fn row_does(row: &Row, kind: Kind, c: usize) -> bool
     match kind {
         Kind::Start => names(row.starts, c),
         Kind::End => names(row.ends, c),
+        Kind::Reset => false,
+    }
+}
+
+/// An event of epoch 0.
+pub(crate) fn event(channel: usize, kind: Kind, index: u32) -> Event
+    ensures { result ≡ event channel kind index }
+{
+    Event {
+        channel,
+        kind,
+        index,
+        epoch: 0,
     }
 }
 
@@ -131,18 +145,10 @@ fn controlled(rows: &[Row], c: usize, dir: Dir) -> Option<Event>
             if flies(rows, c) {
                 None
             } else {
-                Some(Event {
-                    channel: c,
-                    kind: Kind::Start,
-                    index: shown(rows, Kind::Start, c),
-                })
+                Some(event(c, Kind::Start, shown(rows, Kind::Start, c)))
             }
         }
-        Dir::Outward => Some(Event {
-            channel: c,
-            kind: Kind::End,
-            index: shown(rows, Kind::End, c),
-        }),
+        Dir::Outward => Some(event(c, Kind::End, shown(rows, Kind::End, c))),
     }
 }
 
@@ -227,17 +233,13 @@ fn next_event(rows: &[Row], c: usize) -> Event
     } else {
         Kind::Start
     };
-    Event {
-        channel: c,
-        kind,
-        index: shown(rows, kind, c),
-    }
+    event(c, kind, shown(rows, kind, c))
 }
 
 fn same_event(a: Event, b: Event) -> bool
     ensures { result ≡ same_event a b }
 {
-    a.channel == b.channel && a.kind == b.kind && a.index == b.index
+    a.epoch == b.epoch && a.channel == b.channel && a.kind == b.kind && a.index == b.index
 }
 
 /// Whether an event is one of those held back.

@@ -20,7 +20,7 @@ use Rattle.trace_code.proofs.NumberLaws.{IsBytes, IsBytes-rest, Takes, Takes-the
 
 -- ---- numbers
 
-numbers_take : (ws bytes : List ℕ) (x : List ℕ × List ℕ) → IsBytes bytes → numbers_at ws bytes ≡ Some x
+pub numbers_take : (ws bytes : List ℕ) (x : List ℕ × List ℕ) → IsBytes bytes → numbers_at ws bytes ≡ Some x
     → Takes bytes (number_bytes ws x.0) x.1 × Fit ws x.0
 unfolding numbers_at
 numbers_take [] bytes x fits e =
@@ -37,7 +37,7 @@ numbers_take (w ∷ ws) bytes x fits e =
     subst (λ (y : List ℕ × List ℕ). Takes bytes (number_bytes (w ∷ ws) y.0) y.1 × Fit (w ∷ ws) y.0) (same_Some made x b.2)
     (both, (first.1, second.1))
 
-numbers_again : (ws xs rest : List ℕ) → Fit ws xs → numbers_at ws (number_bytes ws xs ++ rest) ≡ Some (xs, rest)
+pub numbers_again : (ws xs rest : List ℕ) → Fit ws xs → numbers_at ws (number_bytes ws xs ++ rest) ≡ Some (xs, rest)
 unfolding numbers_at
 numbers_again [] [] rest fit = refl
 numbers_again [] (x ∷ xs) rest fit = absurd fit
@@ -72,13 +72,13 @@ an_event : (starts ends : ℕ) → (starts ≢ 0) ⊎ (ends ≢ 0) → (eqb star
 an_event starts ends (inl some) = and_left (eqb starts 0) (eqb ends 0) (ne_eqb starts 0 some)
 an_event starts ends (inr some) = and_right (eqb starts 0) (eqb ends 0) (ne_eqb ends 0 some)
 
-record TakesMasks (n : ℕ) (bytes : List ℕ) (x : ℕ × ℕ × List ℕ) : Type 0 where
-  parts : Takes bytes (mask_bytes n x.0 ++ mask_bytes n x.1) x.2
-  starts : x.0 < 2 ^ n
-  ends : x.1 < 2 ^ n
-  event : (x.0 ≢ 0) ⊎ (x.1 ≢ 0)
+pub record TakesMasks (n : ℕ) (bytes : List ℕ) (x : ℕ × ℕ × List ℕ) : Type 0 where
+  pub parts : Takes bytes (mask_bytes n x.0 ++ mask_bytes n x.1) x.2
+  pub starts : x.0 < 2 ^ n
+  pub ends : x.1 < 2 ^ n
+  pub event : (x.0 ≢ 0) ⊎ (x.1 ≢ 0)
 
-masks_take : (n : ℕ) (bytes : List ℕ) (x : ℕ × ℕ × List ℕ) → IsBytes bytes → masks_at n bytes ≡ Some x → TakesMasks n bytes x
+pub masks_take : (n : ℕ) (bytes : List ℕ) (x : ℕ × ℕ × List ℕ) → IsBytes bytes → masks_at n bytes ≡ Some x → TakesMasks n bytes x
 unfolding masks_at
 masks_take n bytes x fits e =
     let a = bind_some (mask_at n bytes) (λ starts. mask_at n starts.1 >>= λ ends. cond (eqb starts.0 0 && eqb ends.0 0) None
@@ -91,7 +91,7 @@ masks_take n bytes x fits e =
     let both = Takes-then bytes (mask_bytes n a.0.0) a.0.1 (mask_bytes n b.0.0) b.0.1 first.0 second.0 in
     subst (TakesMasks n bytes) g.1 (record { parts = both; starts = first.1; ends = second.1; event = has_event a.0.0 b.0.0 g.0 })
 
-masks_again : (n starts ends : ℕ) (rest : List ℕ) → starts < 2 ^ n → ends < 2 ^ n → (starts ≢ 0) ⊎ (ends ≢ 0)
+pub masks_again : (n starts ends : ℕ) (rest : List ℕ) → starts < 2 ^ n → ends < 2 ^ n → (starts ≢ 0) ⊎ (ends ≢ 0)
     → masks_at n (mask_bytes n starts ++ (mask_bytes n ends ++ rest)) ≡ Some (starts, ends, rest)
 unfolding masks_at
 masks_again n starts ends rest low high event =

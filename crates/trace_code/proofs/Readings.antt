@@ -8,12 +8,13 @@ use Rattle.std.proofs.lemmas.Option.{same_Some}
 use Rattle.vec_clock.specs.trace_model.declared.channel.Channel.{Channel}
 use Rattle.vec_clock.specs.trace_model.declared.packet.Packet.{Packet}
 use Rattle.vec_clock.specs.trace_model.declared.trace.Trace.{Trace}
+use Rattle.vec_clock.specs.trace_model.declared.packet.TheConstants.{MOST_CHANNELS}
 use Rattle.vec_clock.specs.trace_model.Channel.{IsTable}
 use Rattle.vec_clock.specs.trace_model.Packet.{IsPacket}
 use Rattle.vec_clock.specs.trace_model.Trace.{Alternates}
 use Rattle.vec_clock.proofs.trace_model_lemmas.FlightLemmas.{alternates-front}
 use Rattle.trace_code.specs.declared.error.CodeError.TheVariants.{BadTrace, Memory}
-use Rattle.trace_code.specs.Encoding.{header_bytes, packet_bytes, end_mark, encode, Encodes}
+use Rattle.trace_code.specs.Encoding.{magic, table_bytes, header_bytes, packet_bytes, end_mark, encode, Encodes}
 use Rattle.trace_code.specs.Reading.{header_at, AreChannels}
 use Rattle.trace_code.specs.PacketReading.{packet_at, AreAll}
 use Rattle.trace_code.specs.Decoding.{Splits, SplitsLongest, HasNoHeader, IsBehindPackets, OneReading, OnePlace, ReadsBack}
@@ -22,16 +23,20 @@ use Rattle.trace_code.proofs.PacketLaws.{packet_again}
 
 -- ---- headers
 
-pub table_channels : (cs : List Channel) → IsTable cs → AreChannels cs
+table_channels : (cs : List Channel) → IsTable cs → AreChannels MOST_CHANNELS cs
 table_channels cs h = record { some = h.some; few = h.few; each = h.each }
 
--- two headers, each with what follows it
-pub same_header : (cs ds : List Channel) (xs ys : List ℕ) → IsTable cs → IsTable ds → header_bytes cs ++ xs ≡ header_bytes ds ++ ys
-    → (cs ≡ ds) × (xs ≡ ys)
-same_header cs ds xs ys c d e =
-    let s = same_Some (cs, xs) (ds, ys) (sym (header_again cs xs (table_channels cs c)) ∙ ap header_at e
-    ∙ header_again ds ys (table_channels ds d)) in
+-- two headers of a version, each with what follows it
+pub same_channels : (magic : List ℕ) (most : ℕ) (cs ds : List Channel) (xs ys : List ℕ) → AreChannels most cs → AreChannels most ds
+    → table_bytes magic cs ++ xs ≡ table_bytes magic ds ++ ys → (cs ≡ ds) × (xs ≡ ys)
+same_channels magic most cs ds xs ys c d e =
+    let s = same_Some (cs, xs) (ds, ys) (sym (header_again magic most cs xs c) ∙ ap (header_at magic most) e
+    ∙ header_again magic most ds ys d) in
     (ap (λ (p : List Channel × List ℕ). p.0) s, ap (λ (p : List Channel × List ℕ). p.1) s)
+
+same_header : (cs ds : List Channel) (xs ys : List ℕ) → IsTable cs → IsTable ds → header_bytes cs ++ xs ≡ header_bytes ds ++ ys
+    → (cs ≡ ds) × (xs ≡ ys)
+same_header cs ds xs ys c d e = same_channels magic MOST_CHANNELS cs ds xs ys (table_channels cs c) (table_channels ds d) e
 
 -- ---- packets
 
@@ -134,11 +139,11 @@ reads_back t (Err (BadTrace at)) has code = absurd (code.1 t (has, refl))
 reads_back t (Err Memory) has code = inr refl
 
 -- ---- the place of a fault
-longer : {X : Type 0} (front all others : List X) → all ≡ front ++ others → length front ≤ length all
+pub longer : {X : Type 0} (front all others : List X) → all ≡ front ++ others → length front ≤ length all
 longer front all others e = omega (arith, ap length e, length-append front others)
 
 -- as long, and begun by it: the same
-as-long : {X : Type 0} (front all others : List X) → all ≡ front ++ others → length all ≤ length front → all ≡ front
+pub as-long : {X : Type 0} (front all others : List X) → all ≡ front ++ others → length all ≤ length front → all ≡ front
 as-long front all [] e l = e ∙ append-nil front
 as-long front all (x ∷ xs) e l = absurd (omega (arith, ap length e, length-append front (x ∷ xs)))
 

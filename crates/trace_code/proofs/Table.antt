@@ -13,11 +13,10 @@ use Rattle.std.proofs.lemmas.Slice.Eq.{bytes_eq-Decides}
 use Rattle.vec_clock.specs.trace_model.declared.channel.Channel.{Channel}
 use Rattle.vec_clock.specs.trace_model.declared.channel.Dir.{Dir}
 use Rattle.vec_clock.specs.trace_model.declared.channel.Dir.TheVariants.{Inward, Outward}
-use Rattle.vec_clock.specs.trace_model.declared.packet.TheConstants.{MOST_CHANNELS}
 use Rattle.vec_clock.specs.trace_model.Channel.{is_letter_or_digit, IsName, IsChannel}
 use Rattle.trace_code.specs.declared.error.CodeError.{CodeError}
 use Rattle.trace_code.specs.declared.error.CodeError.TheVariants.{BadTrace, Memory}
-use Rattle.trace_code.specs.Encoding.{magic, direction_byte, channel_bytes, header_bytes}
+use Rattle.trace_code.specs.Encoding.{direction_byte, channel_bytes, table_bytes}
 use Rattle.trace_code.specs.Reading.{◌>>=◌, Gives, magic_at, dir_at, counted_at, is_name, is_width, are_widths, name_at, widths_at}
 use Rattle.trace_code.specs.Reading.{channel_at, channels_at, count_at, header_at, AreChannels}
 
@@ -33,16 +32,19 @@ tested false x y e = (refl, cc)
 
 -- ---- magic, direction
 
-pub magic_takes : (bytes rest : List ℕ) → magic_at bytes ≡ Some rest → bytes ≡ magic ++ rest
+magic_takes : (magic bytes rest : List ℕ) → magic_at magic bytes ≡ Some rest → bytes ≡ magic ++ rest
 unfolding magic_at
-magic_takes bytes rest e =
-    let g = cond_some (bytes_eq (take 8 bytes) magic) (drop 8 bytes) rest e in
-    let front : take 8 bytes ≡ magic = (bytes_eq-Decides (take 8 bytes) magic).0 g.0 in
-    sym (take-append-drop 8 bytes) ∙ ap (λ (t : List ℕ). t ++ drop 8 bytes) front ∙ ap (λ (t : List ℕ). magic ++ t) g.1
+magic_takes magic bytes rest e =
+    let n = length magic in
+    let g = cond_some (bytes_eq (take n bytes) magic) (drop n bytes) rest e in
+    let front : take n bytes ≡ magic = (bytes_eq-Decides (take n bytes) magic).0 g.0 in
+    sym (take-append-drop n bytes) ∙ ap (λ (t : List ℕ). t ++ drop n bytes) front ∙ ap (λ (t : List ℕ). magic ++ t) g.1
 
-pub magic_again : (rest : List ℕ) → magic_at (magic ++ rest) ≡ Some rest
+magic_again : (magic rest : List ℕ) → magic_at magic (magic ++ rest) ≡ Some rest
 unfolding magic_at
-magic_again rest = refl
+magic_again magic rest =
+    let same : bytes_eq magic magic ≡ true = (bytes_eq-Decides magic magic).1 refl in
+    rw (take_at magic rest (length magic) refl, drop_at magic rest (length magic) refl, same) refl
 
 pub dir_takes : (bytes : List ℕ) (d : Dir) (rest : List ℕ) → dir_at bytes ≡ Some (d, rest) → bytes ≡ direction_byte d ∷ rest
 unfolding dir_at
@@ -195,29 +197,31 @@ channels_again (c ∷ cs) rest h =
 
 -- ---- the header
 
-count_takes : (bytes : List ℕ) (n : ℕ) (rest : List ℕ) → count_at bytes ≡ Some (n, rest) → (bytes ≡ n ∷ rest) × (1 ≤ n) × (n ≤ MOST_CHANNELS)
+count_takes : (most : ℕ) (bytes : List ℕ) (n : ℕ) (rest : List ℕ) → count_at most bytes ≡ Some (n, rest)
+    → (bytes ≡ n ∷ rest) × (1 ≤ n) × (n ≤ most)
 unfolding count_at
-count_takes [] n rest e = absurd cc
-count_takes (m ∷ bytes) n rest e =
+count_takes most [] n rest e = absurd cc
+count_takes most (m ∷ bytes) n rest e =
     let g = cond_some _ (m, bytes) (n, rest) e in
     let within = and_parts _ _ g.0 in
-    subst (λ (p : ℕ × List ℕ). (m ∷ bytes ≡ p.0 ∷ p.1) × (1 ≤ p.0) × (p.0 ≤ MOST_CHANNELS)) g.1 (refl, leb-true _ _ within.0, leb-true _ _ within.1)
+    subst (λ (p : ℕ × List ℕ). (m ∷ bytes ≡ p.0 ∷ p.1) × (1 ≤ p.0) × (p.0 ≤ most)) g.1 (refl, leb-true _ _ within.0, leb-true _ _ within.1)
 
-count_again : (n : ℕ) (rest : List ℕ) → 1 ≤ n → n ≤ MOST_CHANNELS → count_at (n ∷ rest) ≡ Some (n, rest)
+count_again : (most n : ℕ) (rest : List ℕ) → 1 ≤ n → n ≤ most → count_at most (n ∷ rest) ≡ Some (n, rest)
 unfolding count_at
-count_again n rest low high = rw (le-leb 1 n low, le-leb n MOST_CHANNELS high) refl
+count_again most n rest low high = rw (le-leb 1 n low, le-leb n most high) refl
 
-pub header_takes : (bytes : List ℕ) (x : List Channel × List ℕ) → header_at bytes ≡ Some x → AreChannels x.0
-    × (bytes ≡ header_bytes x.0 ++ x.1)
+header_takes : (magic : List ℕ) (most : ℕ) (bytes : List ℕ) (x : List Channel × List ℕ) → header_at magic most bytes ≡ Some x
+    → AreChannels most x.0 × (bytes ≡ table_bytes magic x.0 ++ x.1)
 unfolding header_at
-header_takes bytes x e =
-    let a = bind_some (magic_at bytes) (λ rest. count_at rest >>= λ count. channels_at count.0 count.1) x e in
-    let b = bind_some (count_at a.0) (λ count. channels_at count.0 count.1) x a.2 in
-    let first = magic_takes bytes a.0 a.1 in
-    let second = count_takes a.0 b.0.0 b.0.1 b.1 in
+header_takes magic most bytes x e =
+    let a = bind_some (magic_at magic bytes) (λ rest. count_at most rest >>= λ count. channels_at count.0 count.1) x e in
+    let b = bind_some (count_at most a.0) (λ count. channels_at count.0 count.1) x a.2 in
+    let first = magic_takes magic bytes a.0 a.1 in
+    let second = count_takes most a.0 b.0.0 b.0.1 b.1 in
     let third = channels_take b.0.0 b.0.1 x b.2 in
-    let whole : bytes ≡ header_bytes x.0 ++ x.1 = first ∙ ap (λ (t : List ℕ). magic ++ t)
-    (second.0 ∙ ap (λ (t : List ℕ). b.0.0 ∷ t) third.0 ∙ ap (λ (k : ℕ). k ∷ (flat_map channel_bytes x.0 ++ x.1)) (sym third.1)) in (
+    let whole : bytes ≡ table_bytes magic x.0 ++ x.1 = first ∙ ap (λ (t : List ℕ). magic ++ t)
+    (second.0 ∙ ap (λ (t : List ℕ). b.0.0 ∷ t) third.0 ∙ ap (λ (k : ℕ). k ∷ (flat_map channel_bytes x.0 ++ x.1)) (sym third.1))
+    ∙ sym (append_assoc magic (length x.0 ∷ flat_map channel_bytes x.0) x.1) in (
       record {
         some = omega (arith, third.1, second.1);
         few = omega (arith, third.1, second.2);
@@ -227,28 +231,32 @@ header_takes bytes x e =
       whole,
     )
 
-pub header_again : (cs : List Channel) (rest : List ℕ) → AreChannels cs → header_at (header_bytes cs ++ rest) ≡ Some (cs, rest)
+pub header_again : (magic : List ℕ) (most : ℕ) (cs : List Channel) (rest : List ℕ) → AreChannels most cs
+    → header_at magic most (table_bytes magic cs ++ rest) ≡ Some (cs, rest)
 unfolding header_at
-header_again cs rest h =
-    rw (
-      magic_again (length cs ∷ (flat_map channel_bytes cs ++ rest)),
-      count_again (length cs) (flat_map channel_bytes cs ++ rest) h.some
+header_again magic most cs rest h =
+    ap (header_at magic most) (append_assoc magic (length cs ∷ flat_map channel_bytes cs) rest)
+    ∙ rw (
+      magic_again magic (length cs ∷ (flat_map channel_bytes cs ++ rest)),
+      count_again most (length cs) (flat_map channel_bytes cs ++ rest) h.some
           h.few,
     ) (channels_again cs rest (recursion_from_All IsChannel cs h.each))
 
 -- ---- what reading gives, as clauses say it
 
-pub is_found : {X : Type 0} (bytes : List ℕ) (view : X → List Channel × List ℕ) (r : Result X CodeError) → Gives view r (header_at bytes)
-    → IfOk r (λ x. AreChannels (view x).0 × (bytes ≡ header_bytes (view x).0 ++ (view x).1))
-is_found bytes view (Ok x) given = header_takes bytes (view x) given
-is_found bytes view (Err e) given = tt
+pub is_found : {X : Type 0} (magic : List ℕ) (most : ℕ) (bytes : List ℕ) (view : X → List Channel × List ℕ) (r : Result X CodeError)
+    → Gives view r (header_at magic most bytes)
+    → IfOk r (λ x. AreChannels most (view x).0 × (bytes ≡ table_bytes magic (view x).0 ++ (view x).1))
+is_found magic most bytes view (Ok x) given = header_takes magic most bytes (view x) given
+is_found magic most bytes view (Err e) given = tt
 
-pub is_only : {X : Type 0} (bytes : List ℕ) (view : X → List Channel × List ℕ) (r : Result X CodeError) → Gives view r (header_at bytes)
-    → (cs : List Channel) (rest : List ℕ) → AreChannels cs → bytes ≡ header_bytes cs ++ rest
+pub is_only : {X : Type 0} (magic : List ℕ) (most : ℕ) (bytes : List ℕ) (view : X → List Channel × List ℕ) (r : Result X CodeError)
+    → Gives view r (header_at magic most bytes)
+    → (cs : List Channel) (rest : List ℕ) → AreChannels most cs → bytes ≡ table_bytes magic cs ++ rest
     → MatchResult r (λ x. ((view x).0 ≡ cs) × ((view x).1 ≡ rest)) (λ e. e ≡ Memory)
-is_only bytes view (Ok x) given cs rest h e =
-    let s = same_Some (view x) (cs, rest) (sym given ∙ ap header_at e ∙ header_again cs rest h) in
+is_only magic most bytes view (Ok x) given cs rest h e =
+    let s = same_Some (view x) (cs, rest) (sym given ∙ ap (header_at magic most) e ∙ header_again magic most cs rest h) in
     (ap (λ (p : List Channel × List ℕ). p.0) s, ap (λ (p : List Channel × List ℕ). p.1) s)
-is_only bytes view (Err Memory) given cs rest h e = refl
-is_only bytes view (Err (BadTrace at)) given cs rest h e = absurd (none-some (cs, rest)
-    (sym given.1 ∙ ap header_at e ∙ header_again cs rest h))
+is_only magic most bytes view (Err Memory) given cs rest h e = refl
+is_only magic most bytes view (Err (BadTrace at)) given cs rest h e = absurd (none-some (cs, rest)
+    (sym given.1 ∙ ap (header_at magic most) e ∙ header_again magic most cs rest h))

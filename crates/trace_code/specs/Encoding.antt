@@ -28,8 +28,12 @@ direction_byte Outward = 1
 abbrev pub channel_bytes : Channel → List ℕ
 channel_bytes c = direction_byte c.dir ∷ length c.name ∷ (c.name ++ length c.widths ∷ c.widths)
 
+-- channels behind a version's magic
+abbrev pub table_bytes : List ℕ → List Channel → List ℕ
+table_bytes begin channels = begin ++ length channels ∷ flat_map channel_bytes channels
+
 abbrev pub header_bytes : List Channel → List ℕ
-header_bytes channels = magic ++ length channels ∷ flat_map channel_bytes channels
+header_bytes channels = table_bytes magic channels
 
 -- channel c is bit c mod 8, bit 0 the lowest, of byte c / 8; spare bits are those of the mask, 0
 abbrev pub mask_bytes : ℕ → ℕ → List ℕ

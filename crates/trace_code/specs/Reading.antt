@@ -6,11 +6,9 @@ use Rattle.std.specs.Str.{bytes_eq}
 use Rattle.vec_clock.specs.trace_model.declared.channel.Channel.{Channel}
 use Rattle.vec_clock.specs.trace_model.declared.channel.Dir.{Dir}
 use Rattle.vec_clock.specs.trace_model.declared.channel.Dir.TheVariants.{Inward, Outward}
-use Rattle.vec_clock.specs.trace_model.declared.packet.TheConstants.{MOST_CHANNELS}
 use Rattle.vec_clock.specs.trace_model.Channel.{is_letter, is_letter_or_digit, IsChannel}
 use Rattle.trace_code.specs.declared.error.CodeError.{CodeError}
 use Rattle.trace_code.specs.declared.error.CodeError.TheVariants.{BadTrace, Memory}
-use Rattle.trace_code.specs.Encoding.{magic}
 
 infixl 10 ◌>>=◌
 abbrev pub ◌>>=◌ : {A B : Type 0} → Option A → (A → Option B) → Option B
@@ -29,8 +27,8 @@ Gives view (Err e) read = Fails e read
 abbrev pub with_front : {X : Type 0} → List X → Option (List X × List ℕ) → Option (List X × List ℕ)
 with_front front read = read >>= λ x. Some (front ++ x.0, x.1)
 
-unfoldable pub magic_at : List ℕ → Option (List ℕ)
-magic_at bytes = if bytes_eq (take 8 bytes) magic then Some (drop 8 bytes) else None
+unfoldable pub magic_at : List ℕ → List ℕ → Option (List ℕ)
+magic_at magic bytes = if bytes_eq (take (length magic) bytes) magic then Some (drop (length magic) bytes) else None
 
 unfoldable pub dir_at : List ℕ → Option (Dir × List ℕ)
 dir_at [] = None
@@ -78,19 +76,19 @@ channels_at (suc n) bytes = do
   Some (first.0 ∷ others.0, others.1)
 
 -- a count of channels, from 1 to the most
-unfoldable pub count_at : List ℕ → Option (ℕ × List ℕ)
-count_at [] = None
-count_at (n ∷ rest) = if nat_le 1 n && nat_le n MOST_CHANNELS then Some (n, rest) else None
+unfoldable pub count_at : ℕ → List ℕ → Option (ℕ × List ℕ)
+count_at most [] = None
+count_at most (n ∷ rest) = if nat_le 1 n && nat_le n most then Some (n, rest) else None
 
--- the header, whatever its names and the sizes of its contents
-unfoldable pub header_at : List ℕ → Option (List Channel × List ℕ)
-header_at bytes = do
-  rest ← magic_at bytes
-  count ← count_at rest
+-- a header of the version with this magic and this most of channels, whatever its names and the sizes of its contents
+unfoldable pub header_at : List ℕ → ℕ → List ℕ → Option (List Channel × List ℕ)
+header_at magic most bytes = do
+  rest ← magic_at magic bytes
+  count ← count_at most rest
   channels_at count.0 count.1
 
--- the channels of a header, whatever their names and the sizes of their contents
-pub record AreChannels (channels : List Channel) : Type 0 where
+-- the channels of such a header
+pub record AreChannels (most : ℕ) (channels : List Channel) : Type 0 where
   pub some : 1 ≤ length channels
-  pub few : length channels ≤ MOST_CHANNELS
+  pub few : length channels ≤ most
   pub each : All IsChannel channels

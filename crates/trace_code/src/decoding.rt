@@ -71,7 +71,7 @@ pub(crate) fn read_packets<'a>(
 }
 
 /// Whether the bytes are the end of a trace with this many packets.
-fn is_end(bytes: &[u8], packets: usize) -> bool
+pub fn is_end_mark(bytes: &[u8], packets: usize) -> bool
     ensures { IsTrue result ↔ (packets < 2 ^ 32) × (bytes.now ≡ end_mark packets) }
 {
     match u32::try_from(packets) {
@@ -90,7 +90,7 @@ pub fn decode(alloc: Global, bytes: &[u8]) -> Result<Trace, CodeError>
 {
     let (channels, rest) = read_header(alloc, bytes)?;
     let (packets, rest) = read_packets(alloc, channels.as_slice(), rest)?;
-    if !is_end(rest, packets.len()) {
+    if !is_end_mark(rest, packets.len()) {
         let at = (bytes.len() - rest.len()) as u64;
         return Err(CodeError::BadTrace { at });
     }

@@ -18,7 +18,7 @@ pub enum CodeError {
 }
 
 /// No such part of a trace stands at the front of these bytes.
-pub(crate) const FAULT: CodeError = CodeError::BadTrace { at: 0 };
+pub const FAULT: CodeError = CodeError::BadTrace { at: 0 };
 
 impl From<Memory> for CodeError {
     ghost use Rattle.trace_code.specs.declared.error.CodeError.{CodeError};

@@ -4,7 +4,7 @@ ghost use Rattle.std.specs.Prelude.{◌≡◌, ℕ, ◌≤◌, ◌⊎◌, ◌≢
 ghost use Rattle.std.specs.List.{AllPairs, list_all, Any};
 ghost use Rattle.vec_clock.specs.trace_model.declared.channel.Channel.{Channel};
 ghost use Rattle.vec_clock.specs.trace_model.Channel.{IsTable};
-ghost use Rattle.trace_code.specs.Encoding.{header_bytes};
+ghost use Rattle.trace_code.specs.Encoding.{header_bytes, table_bytes};
 ghost use Rattle.trace_code.specs.Reading.{Gives, magic_at, dir_at, counted_at, is_width, is_name, are_widths, name_at, widths_at};
 ghost use Rattle.trace_code.specs.Reading.{channel_at, channels_at, count_at, header_at, AreChannels};
 
@@ -28,12 +28,12 @@ const MAX_PORTS: usize = 16;
 /// The most bits of a port.
 const MAX_WIDTH: u8 = 128;
 
-/// The bytes after the magic.
+/// The bytes after a magic.
 #[tactic(auto, unfolding(crate::specs::Reading::magic_at))]
-fn read_magic(bytes: &[u8]) -> Option<&[u8]>
-    ensures { option_map (λ rest. rest.now) result ≡ magic_at bytes.now }
+fn read_magic<'a>(magic: &[u8], bytes: &'a [u8]) -> Option<&'a [u8]>
+    ensures { option_map (λ rest. rest.now) result ≡ magic_at magic.now bytes.now }
 {
-    bytes.strip_prefix(&MAGIC)
+    bytes.strip_prefix(magic)
 }
 
 /// A direction, and the bytes after it.
@@ -146,15 +146,15 @@ fn read_channels(alloc: Global, count: u8, bytes: &[u8]) -> Result<(Channels, &[
     Ok((channels, rest))
 }
 
-/// The number of channels, and the bytes after it.
+/// The number of channels, of which there are so many at most, and the bytes after it.
 #[tactic(auto, unfolding(crate::specs::Reading::count_at))]
-fn read_count(bytes: &[u8]) -> Option<(u8, &[u8])>
-    ensures { option_map (λ x. (x.0, x.1.now)) result ≡ count_at bytes.now }
+fn read_count(most: usize, bytes: &[u8]) -> Option<(u8, &[u8])>
+    ensures { option_map (λ x. (x.0, x.1.now)) result ≡ count_at most bytes.now }
 {
     match bytes {
         [] => None,
         [count, rest @ ..] => {
-            if *count == 0 || usize::from(*count) > MOST_CHANNELS {
+            if *count == 0 || usize::from(*count) > most {
                 return None;
             }
             Some((*count, rest))
@@ -162,24 +162,35 @@ fn read_count(bytes: &[u8]) -> Option<(u8, &[u8])>
     }
 }
 
-/// The header, field by field, and the bytes after it.
+/// The header of a version, field by field, and the bytes after it.
 #[tactic(auto, unfolding(crate::specs::Reading::header_at))]
-fn read_header_fields(alloc: Global, bytes: &[u8]) -> Result<(Channels, &[u8]), CodeError>
-    ensures { Gives (λ x. (x.0, x.1.now)) result (header_at bytes.now) }
+fn read_header_fields<'a>(
+    alloc: Global,
+    magic: &[u8],
+    most: usize,
+    bytes: &'a [u8],
+) -> Result<(Channels, &'a [u8]), CodeError>
+    ensures { Gives (λ x. (x.0, x.1.now)) result (header_at magic.now most bytes.now) }
 {
-    let rest = read_magic(bytes).ok_or(FAULT)?;
-    let (count, rest) = read_count(rest).ok_or(FAULT)?;
+    let rest = read_magic(magic, bytes).ok_or(FAULT)?;
+    let (count, rest) = read_count(most, rest).ok_or(FAULT)?;
     read_channels(alloc, count, rest)
 }
 
-/// The header, whatever its names and the sizes of its contents, and the bytes after it.
-fn read_table(alloc: Global, bytes: &[u8]) -> Result<(Channels, &[u8]), CodeError>
-    ensures found { IfOk result (λ x. AreChannels x.0 × (bytes.now ≡ header_bytes x.0 ++ x.1.now)) }
-    ensures only { (channels : List Channel) (rest : List ℕ) → AreChannels channels → bytes.now ≡ header_bytes channels ++ rest
+/// The channels of the header of the version with this magic and this most of channels, whatever their names and the sizes of their
+/// contents, and the bytes after it. `BadTrace { at: 0 }` where no such header stands there.
+pub fn read_table<'a>(
+    alloc: Global,
+    magic: &[u8],
+    most: usize,
+    bytes: &'a [u8],
+) -> Result<(Channels, &'a [u8]), CodeError>
+    ensures found { IfOk result (λ x. AreChannels most x.0 × (bytes.now ≡ table_bytes magic.now x.0 ++ x.1.now)) }
+    ensures only { (channels : List Channel) (rest : List ℕ) → AreChannels most channels → bytes.now ≡ table_bytes magic.now channels ++ rest
         → MatchResult result (λ x. (x.0 ≡ channels) × (x.1.now ≡ rest)) (λ e. e ≡ CodeError.Memory) }
     ensures fault { IfErr result (λ e. (e ≡ CodeError.Memory) ⊎ (e ≡ CodeError.BadTrace 0)) }
 {
-    read_header_fields(alloc, bytes)
+    read_header_fields(alloc, magic, most, bytes)
 }
 
 /// Whether one of the channels has this name.
@@ -192,7 +203,7 @@ fn has_name(channels: &[Channel], name: &[u8]) -> bool
 }
 
 /// Whether no two channels have the same name.
-fn names_differ(channels: &[Channel]) -> bool
+pub fn names_differ(channels: &[Channel]) -> bool
     ensures { IsTrue result ↔ AllPairs (λ (a b : Channel). a.name ≢ b.name) channels.now }
 {
     for (i, channel) in channels.iter().enumerate() {
@@ -211,7 +222,7 @@ pub(crate) fn read_header(alloc: Global, bytes: &[u8]) -> Result<(Channels, &[u8
         → MatchResult result (λ x. (x.0 ≡ channels) × (x.1.now ≡ rest)) (λ e. e ≡ CodeError.Memory) }
     ensures fault { IfErr result (λ e. (e ≡ CodeError.Memory) ⊎ (e ≡ CodeError.BadTrace 0)) }
 {
-    let (channels, rest) = read_table(alloc, bytes)?;
+    let (channels, rest) = read_table(alloc, &MAGIC, MOST_CHANNELS, bytes)?;
     if !names_differ(channels.as_slice()) {
         return Err(FAULT);
     }

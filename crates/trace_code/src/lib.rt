@@ -19,10 +19,12 @@ mod walk;
 mod writing;
 
 pub use cursor::Cursor;
-pub use decoding::{TRACE_LIMIT, decode};
+pub use decoding::{TRACE_LIMIT, decode, is_end_mark};
 pub use encoding::{encode, end_mark, header_bytes};
-pub use error::CodeError;
+pub use error::{CodeError, FAULT};
+pub use header::{names_differ, read_table};
 pub use laws::{front_is_salvaged, one_place, one_reading, one_salvage, reads_back};
+pub use packets::{read_contents, read_masks};
 pub use salvaging::{Whole, salvage, salvage_front};
 pub use vec_clock;
 pub use vec_clock::{trace_model, vidi_bits};

@@ -53,7 +53,7 @@ fn read_start<'a>(
 
 /// The number of the ports of the channels that start.
 fn count_ports(channels: &[Channel], starts: u128) -> usize
-    requires few { length channels.now ≤ MOST_CHANNELS }
+    requires few { length channels.now ≤ 128 }
     requires each { All IsChannel channels.now }
     ensures { result ≡ length (widths_under starts channels.now) }
 {
@@ -66,14 +66,15 @@ fn count_ports(channels: &[Channel], starts: u128) -> usize
     ports
 }
 
-/// The contents of the channels that start, and the bytes after them.
-fn read_contents<'a>(
+/// The contents of the channels that start, and the bytes after them. `BadTrace { at: 0 }` where there are too few bytes, or a
+/// number doesn't fit the width of its port.
+pub fn read_contents<'a>(
     alloc: Global,
     channels: &[Channel],
     starts: u128,
     bytes: &'a [u8],
 ) -> Result<(Numbers, &'a [u8]), CodeError>
-    requires few { length channels.now ≤ MOST_CHANNELS }
+    requires few { length channels.now ≤ 128 }
     requires each { All IsChannel channels.now }
     ensures { Gives (λ x. (x.0, x.1.now)) result (numbers_at (widths_under starts channels.now) bytes.now) }
 {
@@ -97,9 +98,10 @@ pub(crate) fn read_tag(bytes: &[u8]) -> Option<&[u8]>
     }
 }
 
-/// The starts and the ends, of which there are some, and the bytes after them.
+/// The masks of the starts and of the ends, of which there are some, and the bytes after them. None where there are too few bytes, or
+/// a mask names a channel that isn't there.
 #[tactic(auto, unfolding(crate::specs::PacketReading::masks_at))]
-pub(crate) fn read_masks(channels: usize, bytes: &[u8]) -> Option<(u128, u128, &[u8])>
+pub fn read_masks(channels: usize, bytes: &[u8]) -> Option<(u128, u128, &[u8])>
     requires { channels ≤ 128 }
     ensures { option_map (λ x. (x.0, x.1, x.2.now)) result ≡ masks_at channels bytes.now }
 {

@@ -2,11 +2,11 @@
 use Rattle.std.proofs.Common.{◌≡◌, ℕ, ◌+◌, ◌<◌, ◌≤◌, Bool, false, ⊎_elim, sym, subst, ◌∙◌}
 use Rattle.std.specs.Prelude.{◌↔◌, IsTrue}
 use Rattle.std.proofs.lemmas.Bool.{cases_lt, false≢true}
-use Rattle.trace_code.specs.trace_model.declared.event.Kind.TheVariants.{Start}
-use Rattle.trace_code.specs.trace_model.declared.trace.Trace.{Trace}
-use Rattle.trace_code.specs.trace_model.Packet.{count}
-use Rattle.trace_code.specs.declared.cursor.Cursor.{Cursor}
-use Rattle.trace_code.specs.Stands.{Stands, WalksOver}
+use Rattle.trace_v2.specs.trace_model.declared.event.Kind.TheVariants.{Start}
+use Rattle.trace_v2.specs.trace_model.declared.trace.Trace.{Trace}
+use Rattle.trace_v2.specs.trace_model.Packet.{count}
+use Rattle.trace_v2.specs.trace_code.declared.cursor.Cursor.{Cursor}
+use Rattle.trace_v2.specs.trace_code.Stands.{Stands, WalksOver}
 
 -- what at_end says
 abbrev pub Says : Cursor → Bool → Type 0

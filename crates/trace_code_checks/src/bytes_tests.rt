@@ -1,13 +1,13 @@
 //! Worked traces, byte by byte.
 
 ghost use Rattle.std.specs.Prelude.{IfSome};
-ghost use Rattle.trace_code.specs.trace_model.Channel.{IsTable};
-ghost use Rattle.trace_code.specs.Encoding.{HasEncoding};
+ghost use Rattle.trace_v2.specs.trace_model.Channel.{IsTable};
+ghost use Rattle.trace_v2.specs.trace_code.Encoding.{HasEncoding};
 
 use std::alloc::Global;
-use trace_code::trace_model::{Channels, Row, Trace, is_over};
-use trace_code::{decode, encode, end_mark, header_bytes, write_packet};
 use trace_store::vidi_bits::Numbers;
+use trace_v2::trace_code::{decode, encode, end_mark, header_bytes, write_packet};
+use trace_v2::trace_model::{Channels, LONGEST_PACKET, Row, Trace, is_over};
 
 // VIDITRC1, two channels: a inward and b outward, each with one port of 8 bits.
 pub(crate) const PASS: [u8; 19] = [
@@ -128,6 +128,7 @@ fn parts_of_a_trace_are_coded(rt: HostRuntime) {
 pub(crate) fn row(alloc: Global, events: &Events) -> Option<Row> {
     match Vec::from_slice(alloc, events.2) {
         Ok(contents) => Some(Row {
+            fresh: false,
             gates: 3,
             valids: 3,
             readies: 3,
@@ -146,7 +147,7 @@ fn leaves(row: &Row, channels: &Channels, packet: &[u8]) -> bool
     if !is_over(row, channels) {
         return false;
     }
-    let mut buf = [0xaau8; 1040];
+    let mut buf = [0xaau8; LONGEST_PACKET];
     let len = write_packet(row, channels, &mut buf);
     let front = buf[..5].starts_with(packet);
     front && len == packet.len() && buf[packet.len()..].iter().all(|b| *b == 0xaa)

@@ -2,7 +2,7 @@
 
 use crate::bytes_tests::{REGS, ROUND, is_written, joined};
 use std::alloc::Global;
-use trace_code::{CodeError, decode};
+use trace_v2::trace_code::{CodeError, decode};
 
 /// Whether the bytes are no trace, or one that is encoded as these bytes.
 fn is_refused_or_coded(alloc: Global, bytes: &[u8]) -> bool {

@@ -3,7 +3,7 @@
 ghost use Rattle.std.specs.Prelude.{◌≡◌, length, replicate};
 
 use std::alloc::Global;
-use trace_code::vec_clock::Clock;
+use trace_v2::trace_code::vec_clock::Clock;
 
 /// Whether two clocks count and compare: two completions of channel 0 and one of channel 2; then one of channel 1 too.
 fn are_compared(first: &Clock, second: &Clock) -> bool

@@ -1,4 +1,4 @@
-//! Tests of `trace_model`, `trace_store`, `vec_clock`, `trace_code`, `room_ledger` and `report_text`, which stand apart so that these crates
+//! Tests of `trace_model`, `trace_store`, `vec_clock`, `trace_code`, `trace_v2`, `room_ledger` and `report_text`, which stand apart so that these crates
 //! are proved without them.
 #![tactic(auto)]
 
@@ -10,6 +10,8 @@ mod changed_tests;
 mod clock_tests;
 #[cfg(test)]
 mod model_tests;
+#[cfg(test)]
+mod old_tests;
 #[cfg(test)]
 mod room_tests;
 #[cfg(test)]

@@ -2,14 +2,16 @@
 
 use crate::bytes_tests::{Events, NO_SEND, PASS, decoded};
 use std::alloc::Global;
-use trace_code::trace_model::{Packet, Packets, Trace, well_formed};
 use trace_store::vidi_bits::Numbers;
+use trace_v2::trace_model::{Packet, Packets, Trace, well_formed};
 
 /// Whether there is memory for a packet of these events.
 fn is_added(alloc: Global, packets: &mut Packets, events: &Events) -> bool {
     match Vec::from_slice(alloc, events.2) {
         Ok(contents) => packets
             .push(Packet {
+                gap: 0,
+                reset: false,
                 starts: events.0,
                 ends: events.1,
                 contents: Numbers::from_vec(contents),

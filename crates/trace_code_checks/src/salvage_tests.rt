@@ -2,7 +2,7 @@
 
 use crate::bytes_tests::{NO_SEND, ONE_SEND, PASS, is_written, joined};
 use std::alloc::Global;
-use trace_code::salvage;
+use trace_v2::trace_code::salvage;
 
 /// Whether what is salvaged of the bytes is encoded as this body behind the header of PASS.
 fn is_saved(alloc: Global, bytes: &[u8], saved: &[u8]) -> bool {

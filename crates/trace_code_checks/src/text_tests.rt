@@ -3,7 +3,7 @@
 use crate::bytes_tests::{Events, ONE_SEND, PASS, decoded, row};
 use report_text::{dump_text, rows_text};
 use std::alloc::Global;
-use trace_code::trace_model::{Channels, Rows, Trace};
+use trace_v2::trace_model::{Channels, Rows, Trace};
 
 // The lines of a trace of one send.
 const ONE_SEND_TEXT: &str = "channel 0 in a 8\nchannel 1 out b 8\n\

@@ -1,14 +1,14 @@
 //! Cursors over worked traces, whose events and clocks were read off by hand.
 
 ghost use Rattle.std.specs.Prelude.{◌≡◌, ℕ, ◌<◌};
-ghost use Rattle.trace_code.specs.trace_model.Packet.{count};
-ghost use Rattle.trace_code.specs.Encoding.{Encodes};
-ghost use Rattle.trace_code.specs.Stands.{Stands, WalksOver};
+ghost use Rattle.trace_v2.specs.trace_model.Packet.{count};
+ghost use Rattle.trace_v2.specs.trace_code.Encoding.{Encodes};
+ghost use Rattle.trace_v2.specs.trace_code.Stands.{Stands, WalksOver};
 
 use crate::bytes_tests::{NO_SEND, ONE_SEND, PASS, REGS, ROUND, TWO_SENDS, joined};
 use std::alloc::Global;
-use trace_code::trace_model::{Kind, Packet, Trace, names};
-use trace_code::{Cursor, decode};
+use trace_v2::trace_code::{Cursor, decode};
+use trace_v2::trace_model::{Kind, Packet, Trace, names};
 
 /// An event: its clock, and the content of a start.
 type Event<'a> = (&'a [u32], &'a [u128]);
@@ -59,7 +59,7 @@ fn passes(cursor: &mut Cursor, t: &Trace, kind: Kind, channel: usize, event: Eve
     }
     let held = match kind {
         Kind::Start => has_content(cursor, t, channel, event.1),
-        Kind::End => true,
+        Kind::End | Kind::Reset => true,
     };
     cursor.step();
     held
@@ -103,17 +103,18 @@ fn mask_of(packet: &Packet, kind: Kind) -> u128 {
     match kind {
         Kind::Start => packet.starts,
         Kind::End => packet.ends,
+        Kind::Reset => 0,
     }
 }
 
-/// The number of a starting channel in a packet of channels with one port each. A completion has no content, and 0 here.
+/// The number of a starting channel in a packet of channels with one port each. Others have no content, and 0 here.
 fn number_of(packet: &Packet, kind: Kind, channel: usize) -> Option<u128> {
     match kind {
         Kind::Start => {
             let below = below_in(packet.starts, channel);
             packet.contents.get(below).copied()
         }
-        Kind::End => Some(0),
+        Kind::End | Kind::Reset => Some(0),
     }
 }
 

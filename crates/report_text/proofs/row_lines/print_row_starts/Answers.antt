@@ -1,9 +1,9 @@
 use Rattle.std.proofs.Common.{Bool, List, ℕ, [], ◌++◌, cond, codes, decimal, subst}
-use Rattle.vidi_io.specs.vidi_bits.Number.{has}
+use Rattle.text_page.specs.vidi_io.vidi_bits.Number.{has}
 use Rattle.run_model.specs.trace_model.declared.channel.Channel.{Channel}
 use Rattle.report_text.specs.Rows.{row_start}
 use Rattle.report_text.specs.Text.{newline, spaced}
-use Rattle.report_text.proofs.Lines.{more_on}
+use Rattle.text_page.proofs.Items.{more_on}
 use Rattle.report_text.proofs.RowLines.{row_rest, row_there}
 use Rattle.report_text.proofs.row_lines.print_row_starts.Goals as goal
 

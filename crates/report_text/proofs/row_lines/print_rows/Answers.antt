@@ -1,6 +1,6 @@
 use Rattle.std.proofs.Common.{List, ℕ, subst}
 use Rattle.report_text.specs.Rows.{row_lines}
-use Rattle.report_text.proofs.Lines.{more_on}
+use Rattle.text_page.proofs.Items.{more_on}
 use Rattle.report_text.proofs.row_lines.print_rows.Goals as goal
 
 pub loop-cycle-preserved : goal.loop-cycle-preserved

@@ -1,7 +1,7 @@
 use Rattle.std.proofs.Common.{List, ℕ, subst}
 use Rattle.run_model.specs.trace_model.declared.channel.Channel.{Channel}
 use Rattle.report_text.specs.Trace.{channel_line}
-use Rattle.report_text.proofs.Lines.{more_on}
+use Rattle.text_page.proofs.Items.{more_on}
 use Rattle.report_text.proofs.trace_text.print_channels.Goals as goal
 
 pub loop-number-preserved : goal.loop-number-preserved

@@ -3,10 +3,11 @@ use Rattle.std.proofs.lemmas.List.{get_or-replicate, length-replicate}
 use Rattle.std.proofs.lemmas.Option.{slice_get_read}
 use Rattle.std.specs.List.{flat_map, enumerate_from}
 use Rattle.run_model.specs.trace_model.declared.packet.Packet.{Packet}
-use Rattle.report_text.specs.Pad.{room}
+use Rattle.text_page.specs.Pad.{room}
 use Rattle.report_text.specs.Trace.{packet_lines}
 use Rattle.report_text.proofs.Clocks.{clock-first, clock-small, clock-on}
-use Rattle.report_text.proofs.Lines.{halves, more_on}
+use Rattle.text_page.proofs.Items.{more_on}
+use Rattle.report_text.proofs.Lines.{halves}
 use Rattle.report_text.proofs.Packets.{packet-said}
 use Rattle.report_text.proofs.trace_text.print_packets.Goals as goal
 

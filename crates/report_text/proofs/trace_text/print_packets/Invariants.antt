@@ -1,7 +1,7 @@
 use Rattle.std.proofs.Common.{◌≡◌, ◌+◌, ◌*◌, ◌≤◌, take, length, map}
 use Rattle.std.specs.List.{flat_map, enumerate_from, range_with_len}
 use Rattle.run_model.specs.trace_model.Clock.{clock}
-use Rattle.report_text.specs.Pad.{room}
+use Rattle.text_page.specs.Pad.{room}
 use Rattle.report_text.specs.Trace.{packet_lines}
 use Rattle.report_text.proofs.trace_text.print_packets.Given as goal
 

@@ -1,10 +1,11 @@
 use Rattle.std.proofs.Common.{Bool, List, ℕ, [], ◌++◌, length, take, drop, cond, codes, decimal, ap, subst, ◌∙◌}
 use Rattle.run_model.proofs.trace_model_lemmas.ContentsLemmas.{rest-on}
-use Rattle.vidi_io.specs.vidi_bits.Number.{has}
+use Rattle.text_page.specs.vidi_io.vidi_bits.Number.{has}
 use Rattle.run_model.specs.trace_model.declared.channel.Channel.{Channel}
 use Rattle.report_text.specs.Text.{spaced}
 use Rattle.report_text.specs.Trace.{start_line}
-use Rattle.report_text.proofs.Lines.{more_on, start-there}
+use Rattle.text_page.proofs.Items.{more_on}
+use Rattle.report_text.proofs.Lines.{start-there}
 use Rattle.report_text.proofs.trace_text.print_starts.Goals as goal
 
 pub loop-c-preserved : goal.loop-c-preserved

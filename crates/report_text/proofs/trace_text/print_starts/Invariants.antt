@@ -1,6 +1,6 @@
 use Rattle.std.proofs.Common.{◌≡◌, ℕ, take, drop, length, cond, []}
 use Rattle.std.specs.List.{flat_map, enumerate_from}
-use Rattle.vidi_io.specs.vidi_bits.Number.{has}
+use Rattle.text_page.specs.vidi_io.vidi_bits.Number.{has}
 use Rattle.run_model.specs.trace_model.declared.channel.Channel.{Channel}
 use Rattle.run_model.specs.trace_model.Packet.{widths_under}
 use Rattle.report_text.specs.Trace.{start_line}

@@ -1,5 +1,5 @@
 use Rattle.std.proofs.Common.{◌≡◌, ◌+◌, ◌*◌, ◌≤◌, ◌++◌, take}
-use Rattle.report_text.specs.Pad.{shown, room, left}
+use Rattle.text_page.specs.Pad.{shown, room, left}
 use Rattle.report_text.specs.Text.{spaced}
 use Rattle.report_text.proofs.trace_text.put_counts.Given as goal
 

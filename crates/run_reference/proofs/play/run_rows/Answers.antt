@@ -49,7 +49,7 @@ loop-t-preserved g c =
     let there = slice_get_read c.args.offers.now (length c.args.offers.now) c.loop-t.t offer refl c.loop-t-test.true c.index-offers-t.is in
     let grown = run-grow d m c.args.offers.now c.args.gates.now rows s inv.grown offer gates row after
     (offer-here c.args.offers.now rows c.loop-t.t offer inv.count there) (ap (slice_index c.args.gates.now) (sym inv.count)) st
-    c.in_ok-row.ensures.gates in
+    c.in_ok-row.ensures.gates c.in_ok-row.ensures.fresh in
     record {
       grown = subst (λ (rs : List Row). Grown d m (IsRunRow m.channels (offers_by c.args.offers.now) (GatesOf
           (gates_by c.args.gates.now))) rs after)

@@ -59,7 +59,7 @@ loop-t-preserved g c =
       step = made;
     } in
     let up : gates ≡ all_up m.channels = c.all_up-gates.ensures ∙ ap (λ (xs : List Channel). all_up xs) c.as_slice-channels.ensures in
-    let grown = replay-grow d m ps c.requires.packets rows s inv.grown offers is gates up row after st c.in_ok-row.ensures.gates in
+    let grown = replay-grow d m ps c.requires.packets rows s inv.grown offers is gates up row after st c.in_ok-row.ensures.gates c.in_ok-row.ensures.fresh in
     record {
       grown = subst (λ (rs : List Row). Grown d m (IsReplayRow m.channels ps) rs after) (sym c.in_ok-push.ensures.ok) grown;
       design = c.step.ensures.design ∙ inv.design;

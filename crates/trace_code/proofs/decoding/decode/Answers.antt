@@ -5,25 +5,25 @@ use Rattle.trace_code.specs.PacketReading.{AreAll}
 use Rattle.trace_code.proofs.Readings.{all-encoded, no-end, one_reading, place-behind}
 use Rattle.trace_code.proofs.decoding.decode.Goals as goal
 
-pub returns-then-not-is_end-clause-decodes : goal.returns-then-not-is_end-clause-decodes
-returns-then-not-is_end-clause-decodes c =
+pub returns-then-not-is_end_mark-clause-decodes : goal.returns-then-not-is_end_mark-clause-decodes
+returns-then-not-is_end_mark-clause-decodes c =
     let cs = c.in_ok-channels.channels in
     let ps = c.in_ok-packets.packets in
     let found = c.in_ok-channels.ensures.found in
     let all : AreAll cs c.in_ok-channels.rest.now ps c.in_ok-packets.rest.now = rw c.as_slice.ensures at c.in_ok-packets.ensures in (
       inr (place-behind cs c.args.bytes.now c.in_ok-channels.rest.now c.in_ok-packets.rest.now ps _ found.0 found.1 all refl),
       no-end cs c.args.bytes.now c.in_ok-channels.rest.now c.in_ok-packets.rest.now ps found.0 found.1 all
-          (λ e. false≢true (sym c.if-not-is_end.true ∙ c.is_end.ensures.1 (rw c.len.ensures e))),
+          (λ e. false≢true (sym c.if-not-is_end_mark.true ∙ c.is_end_mark.ensures.1 (rw c.len.ensures e))),
     )
 
-pub returns-then-not-is_end-clause-only : goal.returns-then-not-is_end-clause-only
-returns-then-not-is_end-clause-only c t code =
+pub returns-then-not-is_end_mark-clause-only : goal.returns-then-not-is_end_mark-clause-only
+returns-then-not-is_end_mark-clause-only c t code =
     let cs = c.in_ok-channels.channels in
     let ps = c.in_ok-packets.packets in
     let found = c.in_ok-channels.ensures.found in
     let all : AreAll cs c.in_ok-channels.rest.now ps c.in_ok-packets.rest.now = rw c.as_slice.ensures at c.in_ok-packets.ensures in
     absurd (no-end cs c.args.bytes.now c.in_ok-channels.rest.now c.in_ok-packets.rest.now ps found.0 found.1 all
-    (λ e. false≢true (sym c.if-not-is_end.true ∙ c.is_end.ensures.1 (rw c.len.ensures e))) t code)
+    (λ e. false≢true (sym c.if-not-is_end_mark.true ∙ c.is_end_mark.ensures.1 (rw c.len.ensures e))) t code)
 
 pub returns-clause-only : goal.returns-clause-only
 returns-clause-only c t code =
@@ -32,6 +32,6 @@ returns-clause-only c t code =
     let found = c.in_ok-channels.ensures.found in
     let all : AreAll cs c.in_ok-channels.rest.now ps c.in_ok-packets.rest.now = rw c.as_slice.ensures at c.in_ok-packets.ensures in
     let end : (length ps < 2 ^ 32) × (c.in_ok-packets.rest.now ≡ end_mark (length ps)) = rw c.len.ensures at
-    (c.is_end.ensures.0 c.if-not-is_end.false) in
+    (c.is_end_mark.ensures.0 c.if-not-is_end_mark.false) in
     one_reading c.args.bytes.now (record { channels = cs; packets = ps }) t
     (all-encoded cs c.args.bytes.now c.in_ok-channels.rest.now c.in_ok-packets.rest.now ps found.0 found.1 all end) code

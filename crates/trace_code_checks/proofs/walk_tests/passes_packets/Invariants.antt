@@ -1,5 +1,5 @@
 use Rattle.std.proofs.Common.{ℕ}
-use Rattle.trace_code.specs.Stands.{Stands, WalksOver}
+use Rattle.trace_v2.specs.trace_code.Stands.{Stands, WalksOver}
 use Rattle.trace_code_checks.proofs.walk_tests.passes_packets.Given as goal
 
 abbrev pub invariant-loop-packet : goal.invariant-loop-packet

@@ -1,9 +1,9 @@
 use Rattle.std.proofs.Common.{◌≡◌, ap, sym, subst, ◌∙◌}
 use Rattle.std.specs.Io.KnownBytes.{append_known}
-use Rattle.vidi_io.specs.Sink.{AppendsSome}
-use Rattle.report_text.specs.Pad.{shown}
+use Rattle.text_page.specs.vidi_io.Sink.{AppendsSome}
+use Rattle.text_page.specs.Pad.{shown}
 use Rattle.report_text.specs.Trace.{dump_text}
-use Rattle.report_text.proofs.Printed.{mapped_ok, mapped_err, printed_ok, printed_err}
+use Rattle.text_page.proofs.Printed.{mapped_ok, mapped_err, printed_ok, printed_err}
 use Rattle.report_text.proofs.trace_lines.TraceLines.print.Goals as goal
 
 pub returns-clause-ok : goal.returns-clause-ok

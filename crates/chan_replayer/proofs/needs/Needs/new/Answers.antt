@@ -1,0 +1,1 @@
+use Rattle.chan_replayer.proofs.needs.Needs.new.Goals as goal

@@ -1,0 +1,5 @@
+pub mod Pad
+pub mod Draft
+pub mod Printing
+pub mod PrintingLaws
+pub use Rattle.vidi_io.specs as vidi_io

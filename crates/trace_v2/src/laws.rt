@@ -1,0 +1,18 @@
+//! Laws of the definitions.
+
+ghost use Rattle.trace_v2.specs.OldDecoding.{OneOldPlace, OneOldReading, OneOldSalvage};
+
+/// No bytes are the old encoding of two traces.
+pub fn one_old_reading()
+    ensures { OneOldReading }
+{}
+
+/// The fault in bytes that are no old encoding has one place.
+pub fn one_old_place()
+    ensures { OneOldPlace }
+{}
+
+/// No bytes are salvaged by version 1 in two ways, unless memory runs out.
+pub fn one_old_salvage()
+    ensures { OneOldSalvage }
+{}

@@ -1,0 +1,14 @@
+//! The bytes of a trace, version 1, which are read and no longer written: `Old` in `specs/` spells an old trace, `decode_v1` reads it, and
+//! `salvage_v1` reads what is whole of one that was cut off.
+#![tactic(auto)]
+
+mod decoding;
+mod header;
+mod laws;
+mod packets;
+
+pub use decoding::{decode_v1, salvage_v1};
+pub use header::{MOST_OLD_CHANNELS, MOST_OLD_CONTENT_BYTES};
+pub use laws::{one_old_place, one_old_reading, one_old_salvage};
+pub use trace_code;
+pub use trace_code::{trace_model, vidi_bits};
