@@ -13,7 +13,7 @@ use crate::watched::Watched;
 use replay_run::chan_replayer::{Feed, Needs, ReplayMachines, ReplayShell};
 use run_reference::chan_map::Map;
 use run_reference::trace_model::{Row, row_over};
-use run_reference::vidi_bits::{Memory, Numbers};
+use run_reference::vidi_bits::{Items, Memory, Numbers};
 use sample_designs::net_sim::Sim;
 use sample_designs::{Sample, Stage, two_channel_stage};
 use std::alloc::Global;
@@ -37,17 +37,18 @@ fn feed(alloc: Global, more: u128, needs: [u32; 4], content: u8) -> Result<Feed,
     requires { more < 4 }
     ensures { IfOk result (IsFeedOver stage_channels) }
 {
-    let mut all = Needs::new(alloc);
+    let mut all = Items::new(alloc);
     all.push(needs[0])?;
     all.push(needs[1])?;
     all.push(needs[2])?;
     all.push(needs[3])?;
+    let needs = Needs::of_numbers(alloc, 2, all)?;
     let mut contents = Numbers::new(alloc);
     contents.push(u128::from(content))?;
     contents.push(0)?;
     Ok(Feed {
         more,
-        needs: all,
+        needs,
         contents,
     })
 }

@@ -44,18 +44,6 @@ pub(crate) fn input_count(channels: usize, channel: &Channel) -> usize
     }
 }
 
-/// The clock of the next event of channel `c`, one number a channel.
-fn needs_of(feed: &Feed, channels: usize, c: usize) -> &[u32]
-    requires channel { c < channels }
-    requires few { channels ≤ 128 }
-    requires needs { length feed.now.needs ≡ channels * channels }
-    ensures { result.now ≡ take channels (drop (channels * c) feed.now.needs) }
-{
-    let (_below, from) = feed.needs.as_slice().split_at(channels * c);
-    let (needs, _above) = from.split_at(channels);
-    needs
-}
-
 /// Enters a clock from place `at` on.
 fn enter_needs(pins: &mut [u128], at: usize, needs: &[u32])
     requires { at + length needs.now ≤ length pins.old }
@@ -97,7 +85,7 @@ fn enter_channel(
     ensures small { (j : ℕ) → j < channels → slice_index (take channels (drop (channels * c) feed.now.needs)) j < 2 ^ 32 }
 {
     pins[at] = u128::from(names(feed.more, c));
-    enter_needs(pins, at + 1, needs_of(feed, channels, c));
+    enter_needs(pins, at + 1, feed.needs.clock(c));
     enter_content(pins, at + 1 + channels, dir, content);
 }
 

@@ -8,7 +8,7 @@ ghost use Rattle.shim_runs.specs.run_model.Offers.{AreZeroWhileDown};
 ghost use Rattle.shim_runs.specs.chan_replayer.Fed.{fed_content};
 ghost use Rattle.shim_runs.specs.chan_replayer.Feed.{IsFeedOver};
 
-use shim_runs::chan_replayer::{Feed, clear_contents};
+use shim_runs::chan_replayer::{Feed, Needs, clear_contents};
 use shim_runs::trace_model::{Channel, Channels, Offers, names};
 use shim_runs::vidi_bits::{Bytes, Items, Memory, trim};
 use std::alloc::Global;
@@ -117,12 +117,30 @@ fn near(sequence: &mut Sequence, count: u32) -> u32 {
     }
 }
 
-/// Draws the clocks of all channels' next events, near these counts of completions.
-fn draw_needs(sequence: &mut Sequence, counts: &[u32], needs: &mut [u32])
-    requires { 0 < length counts.now }
+/// Draws a clock, near these counts of completions.
+fn draw_clock(sequence: &mut Sequence, counts: &[u32], clock: &mut [u32])
+    requires { length clock.old ≡ length counts.now }
 {
-    for k in 0..needs.len() {
-        needs[k] = near(sequence, counts[k % counts.len()]);
+    for d in 0..counts.len() {
+        clock[d] = near(sequence, counts[d]);
+    }
+}
+
+/// Draws the clocks of all channels' next events, near these counts of completions; `clock` is a place for one of them.
+fn draw_needs(sequence: &mut Sequence, counts: &[u32], clock: &mut [u32], needs: &mut Needs)
+    requires clock { length clock.old ≡ length counts.now }
+    requires needs { length needs.old ≡ length counts.now * length counts.now }
+    ensures { length needs.new ≡ length needs.old }
+{
+    for c in 0..counts.len() {
+        draw_clock(sequence, counts, clock);
+        let drawn: &[u32] = clock;
+        needs.write(
+            c,
+            |d|
+                requires { d < length drawn.now }
+            { drawn[d] },
+        );
     }
 }
 
@@ -132,33 +150,33 @@ pub(crate) fn feed_over(alloc: Global, channels: usize, ports: usize) -> Result<
     ensures needs { IfOk result (λ feed. length feed.needs ≡ channels * channels) }
     ensures contents { IfOk result (λ feed. length feed.contents ≡ ports) }
 {
-    let needs = vec![in alloc; 0u32; channels * channels]?;
     let contents = vec![in alloc; 0u128; ports]?;
     Ok(Feed {
         more: 0,
-        needs: Items::from_vec(needs),
+        needs: Needs::new(alloc, channels)?,
         contents: Items::from_vec(contents),
     })
 }
 
-/// Draws what is fed in a cycle, after so many completions of each channel.
+/// Draws what is fed in a cycle, after so many completions of each channel; `clock` is a place for one clock.
 pub(crate) fn draw_feed(
     sequence: &mut Sequence,
     channels: &Channels,
     widths: &Bytes,
     counts: &[u32],
+    clock: &mut [u32],
     feed: &mut Feed,
 )
-    requires some { 1 ≤ length channels.now }
     requires few { length channels.now ≤ 128 }
     requires widths { widths.now ≡ all_widths channels.now }
     requires counts { length counts.now ≡ length channels.now }
+    requires clock { length clock.old ≡ length counts.now }
     requires needs { length feed.old.needs ≡ length channels.now * length channels.now }
     requires places { length feed.old.contents ≡ length (all_widths channels.now) }
     ensures feed { IsFeedOver channels.now feed.new }
     ensures places { length feed.new.contents ≡ length (all_widths channels.now) }
 {
     feed.more = sequence.mask(channels.len());
-    draw_needs(sequence, counts, feed.needs.as_mut_slice());
+    draw_needs(sequence, counts, clock, &mut feed.needs);
     draw_contents(sequence, widths.as_slice(), feed.contents.as_mut_slice());
 }

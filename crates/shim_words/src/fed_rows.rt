@@ -177,6 +177,7 @@ fn differ_at<S: ReplayShell, T: ReplayShell>(
     let mut sequence = Sequence::new(course.seed);
     let widths = widths_over(alloc, channels.as_slice())?;
     let mut counts = vec![in alloc; 0u32; channels.len()]?;
+    let mut clock = vec![in alloc; 0u32; channels.len()]?;
     let mut feed = feed_over(alloc, channels.len(), widths.len())?;
     let mut row = row_over(alloc, channels)?;
     let mut its = row_over(alloc, channels)?;
@@ -189,6 +190,7 @@ fn differ_at<S: ReplayShell, T: ReplayShell>(
             channels,
             &widths,
             counts.as_slice(),
+            clock.as_mut_slice(),
             &mut feed,
         );
         cycle(one, channels, &feed, &mut row);

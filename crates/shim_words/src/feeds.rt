@@ -26,15 +26,15 @@ fn numbers_behind(alloc: Global, words: &[Name], mark: &[u8]) -> Result<Numbers,
 }
 
 /// The same numbers, of 32 bits each.
-fn needs_of(alloc: Global, numbers: &[u128]) -> Result<Needs, Ended> {
-    let mut needs = Items::new(alloc);
+fn words_of(alloc: Global, numbers: &[u128]) -> Result<Items<u32>, Ended> {
+    let mut words = Items::new(alloc);
     for n in numbers {
         match u32::try_from(*n) {
-            Ok(need) => needs.push(need)?,
+            Ok(word) => words.push(word)?,
             Err(_) => return Err(Ended::Usage),
         }
     }
-    Ok(needs)
+    Ok(words)
 }
 
 /// The feed of a line, over these channels.
@@ -45,19 +45,20 @@ pub(crate) fn feed_of(alloc: Global, line: &Line, channels: &Channels) -> Result
     let words = line.words.as_slice();
     let more = numbers_behind(alloc, words, b"more")?;
     let needs = numbers_behind(alloc, words, b"needs")?;
-    let needs = needs_of(alloc, needs.as_slice())?;
+    let needs = words_of(alloc, needs.as_slice())?;
     let contents = numbers_behind(alloc, words, b"contents")?;
     let [more] = more.as_slice() else {
         return Err(Ended::Usage);
     };
-    checked(channels, *more, needs, contents)
+    checked(alloc, channels, *more, needs, contents)
 }
 
 /// A feed of these parts, where they are one over the channels.
-pub(crate) fn checked(
+fn checked(
+    alloc: Global,
     channels: &Channels,
     more: u128,
-    needs: Needs,
+    needs: Items<u32>,
     contents: Numbers,
 ) -> Result<Feed, Ended>
     requires { length channels.now ≤ MOST_CHANNELS }
@@ -77,7 +78,7 @@ pub(crate) fn checked(
     }
     Ok(Feed {
         more,
-        needs,
+        needs: Needs::of_numbers(alloc, channels.len(), needs)?,
         contents: row.contents,
     })
 }

@@ -10,6 +10,9 @@ byte_truth : (b : Bool) → bool_byte b ≡ truth b
 byte_truth true = refl
 byte_truth false = refl
 
+pub clock-requires : goal.clock-requires
+clock-requires c = (c.args.channels, c.requires.needs, c.requires.channel)
+
 pub returns-clause-entered : goal.returns-clause-entered
 returns-clause-entered c =
     channel_entered c.args.pins.now c.args.at c.args.channels (truth (has c.args.feed.now.more c.args.c))
@@ -17,5 +20,5 @@ returns-clause-entered c =
     (set c.args.pins.now c.args.at c.from.result) c.enter_needs.new.pins c.enter_content.new.pins
     (clock_long c.args.channels c.args.c c.args.feed.now.needs c.requires.channel c.requires.needs) c.requires.room
     (ap (set c.args.pins.now c.args.at) (c.from.ensures ∙ byte_truth c.names.result ∙ ap truth c.names.ensures))
-    (c.enter_needs.ensures.entered ∙ ap (replaced (set c.args.pins.now c.args.at c.from.result) _) c.needs_of.ensures)
+    (c.enter_needs.ensures.entered ∙ ap (replaced (set c.args.pins.now c.args.at c.from.result) _) (c.clock.ensures c.args.channels c.requires.needs))
     c.enter_content.ensures

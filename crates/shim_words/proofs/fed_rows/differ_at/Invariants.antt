@@ -10,6 +10,7 @@ invariant-loop-at g l = record {
   one_cycles : g.S.ReplayShell.cycles l.one ≤ l.at;
   other_cycles : g.T.ReplayShell.cycles l.other ≤ l.at;
   counts : length l.counts.items ≡ length l.channels;
+  clock : length l.clock.items ≡ length l.channels;
   needs : length l.feed.needs ≡ length l.channels * length l.channels;
   contents : length l.feed.contents ≡ length (all_widths l.channels);
   row : HasPlaces l.channels l.row;
