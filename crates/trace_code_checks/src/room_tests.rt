@@ -1,12 +1,12 @@
 //! Gates, the permit to reset and capacities: of two channels, and of 128.
 
-ghost use Rattle.trace_v2.specs.trace_model.Channel.{IsTable};
+ghost use Rattle.std.specs.Prelude.{◌≡◌, ◌+◌, ◌*◌, ◌≤◌, length, sum_by, IfOk, OnOk};
+ghost use Rattle.room_ledger.specs.trace_model.Channel.{content_bytes};
 
 use room_ledger::trace_model::{Channel, Channels, Dir};
 use room_ledger::vidi_bits::{Bytes, Memory};
 use room_ledger::{Room, RoomError};
 use std::alloc::Global;
-use trace_v2::trace_model::Channels;
 
 /// A cycle: its starts, its ends and the length of its packet.
 type Emission = (u128, u128, u32);
