@@ -1,6 +1,6 @@
 -- A plain run, one row longer, and its end.
 use Rattle.std.proofs.Common.{◌≡◌, ℕ, zero, suc, ◌<◌, ◌≤◌, List, [], ◌∷◌, ◌++◌, Option, Some, None, length, slice_get}
-use Rattle.std.proofs.Common.{⊎_elim, refl, ap, sym}
+use Rattle.std.proofs.Common.{⊎_elim, false, refl, ap, sym}
 use Rattle.std.proofs.Common.{subst, ◌∙◌, arith, Result, Ok, Err}
 use Rattle.std.specs.Prelude.{OnErr}
 use Rattle.std.proofs.lemmas.Option.{same_Some}
@@ -83,21 +83,23 @@ going-first runs d m offer rows first is on e = subst (Going runs d m offer) (sy
 -- a row more, whatever the state after it
 pub record Shown (d : Design) (m : Map) (offer : List Row → ℕ → Offer) (now : Values) (rows : List Row) (row : Row) : Type 0 where
   pub shown : IsShown d m now (row_before rows (length rows)) (offers_after m.channels offer rows) (all_up m.channels) row
+  pub fresh : row.fresh ≡ false
 
 pub shown-of : (d : Design) (m at : Map) (channels : List Channel) (offer : List Row → ℕ → Offer) (offers : Offers) (now : Values)
     (rows : List Row) (row : Row) → at ≡ m → channels ≡ m.channels → offers ≡ offers_after m.channels offer rows
-    → IsShown d at now (row_before rows (length rows)) offers (all_up channels) row → Shown d m offer now rows row
-shown-of d m at channels offer offers now rows row same table o shown = record {
+    → IsShown d at now (row_before rows (length rows)) offers (all_up channels) row → row.fresh ≡ false → Shown d m offer now rows row
+shown-of d m at channels offer offers now rows row same table o shown fresh = record {
   shown = subst (λ (n : Map). IsShown d n now (row_before rows (length rows)) (offers_after m.channels offer rows) (all_up m.channels) row)
       same (subst (λ (xs : List Channel). IsShown d at now (row_before rows (length rows)) (offers_after m.channels offer rows) (all_up
       xs) row) table (subst (λ (x : Offers). IsShown d at now (row_before rows (length rows)) x (all_up channels) row) o shown));
+  fresh = fresh;
 }
 
 grown-push : (d : Design) (m : Map) (offer : List Row → ℕ → Offer) (rows : List Row) (now : Values) → Grown d m (rule m offer) rows now
     → (row : Row) (after : Values) → Shown d m offer now rows row → IsStep d m now row after
     → Grown d m (rule m offer) (rows ++ row ∷ []) after
 grown-push d m offer rows now grown row after s step =
-    played-push d m (rule m offer) rows row after grown.played (s.shown.carries, s.shown.gates_are) s.shown.over s.shown.marked
+    played-push d m (rule m offer) rows row after grown.played (s.shown.carries, s.shown.gates_are, s.fresh) s.shown.over s.shown.marked
     (subst (λ u. IsStep d m u row after) (sym grown.state) step)
 
 pub going-on : (runs then : Design → Values → Option Row → Type 0) (d : Design) (m at : Map) (offer : List Row → ℕ → Offer)

@@ -1,6 +1,6 @@
 //! The plain run.
 
-ghost use Rattle.std.specs.Prelude.{◌≡◌, ◌<◌, ◌≤◌, ◌-◌, ◌^◌, ◌⊎◌, [], ℕ, Option, None, Some, length, slice_get, IfOk, OnErr};
+ghost use Rattle.std.specs.Prelude.{◌≡◌, ◌≤◌, ◌⊎◌, [], ℕ, false, Option, None, Some, length, slice_get, IfOk, OnErr};
 ghost use Rattle.std.specs.Option.{option_copied};
 ghost use Rattle.env_script.specs.trace_model.declared.row.Row.{Row as OneRow};
 ghost use Rattle.env_script.specs.trace_model.Row.{all_widths, row_before, IsOver};
@@ -12,13 +12,13 @@ ghost use Rattle.chan_monitor.specs.run_model.Played.{all_up};
 ghost use Rattle.chan_monitor.specs.Shell.{IsRunning, IsShown};
 ghost use Rattle.env_script.specs.Offered.{offers_on, AllFit};
 ghost use Rattle.bench_run.specs.Plain.{GoesOn, IsBreak, IsPlainRun, StandsBehind, StandsWithin};
-ghost use Rattle.env_script.specs.script_text.declared.script.TheConstants.{MOST_CYCLES};
+ghost use Rattle.env_script.specs.trace_model.declared.packet.TheConstants.{MOST_CHANNELS, MOST_CYCLES};
 
 use crate::lent::Lent;
 use chan_monitor::chan_map::Map;
 use chan_monitor::vidi_bits::{Items, Memory};
 use chan_monitor::{Machines, Shell};
-use env_script::trace_model::{Channels, Offers, Row, Rows, unstable};
+use env_script::trace_model::{Channels, Offers, Row, Rows, all_up, unstable};
 use env_script::{Env, gather, offers_over};
 use net_design::Block;
 use std::alloc::Global;
@@ -39,14 +39,6 @@ pub struct PlainRun {
     pub rows: Rows,
     /// Where the first unstable row is, and the lowest channel on which it is.
     pub unstable: Option<Spot>,
-}
-
-/// The mask of all channels' gates.
-fn all_up(channels: &Channels) -> u128
-    requires { length channels.now ≤ 32 }
-    ensures { result ≡ all_up channels.now }
-{
-    (1 << channels.len()) - 1
 }
 
 /// The row before the next one, if there is one.
@@ -71,12 +63,14 @@ fn break_after(rows: &Rows, row: &Row, channels: &Channels) -> Option<usize>
     }
 }
 
-/// A row with as many places for numbers as the offers have, in which nothing is up. Its memory is taken at once.
+/// A row with as many places for numbers as the offers have, in which nothing is up. It isn't fresh. Its memory is taken at once.
 fn row_for(alloc: Global, offers: &Offers) -> Result<Row, Memory>
-    ensures { IfOk result (λ row. length row.contents ≡ length offers.now.contents) }
+    ensures places { IfOk result (λ row. length row.contents ≡ length offers.now.contents) }
+    ensures fresh { IfOk result (λ row. row.fresh ≡ false) }
 {
     let contents = vec![in alloc; 0u128; offers.contents.len()]?;
     Ok(Row {
+        fresh: false,
         gates: 0,
         valids: 0,
         readies: 0,
@@ -96,11 +90,12 @@ fn next_row<S: Shell, E: Env>(
 ) -> Result<Row, Memory>
     requires channels { channels.now ≡ (S.map shell.old).channels }
     requires same { channels.now ≡ E.channels env.now }
-    requires few { length channels.now ≤ 32 }
+    requires few { length channels.now ≤ MOST_CHANNELS }
     requires fits { AllFit (E.channels env.now) (E.current env.now) }
     requires places { length offers.old.contents ≡ length (all_widths channels.now) }
     ensures row { IfOk result (λ row. (d : Design) (s : Values) (before : Option OneRow) → S.runs shell.old d s before
         → IsShown d (S.map shell.old) s before (offers_on channels.now (E.current env.now)) (all_up channels.now) row) }
+    ensures fresh { IfOk result (λ row. row.fresh ≡ false) }
     ensures runs { IfOk result (λ row. (d : Design) (s : Values) (before : Option OneRow) → S.runs shell.old d s before
         → S.runs shell.new d s before) }
     ensures driven { IfOk result (λ row. S.driven shell.new row) }
@@ -110,7 +105,7 @@ fn next_row<S: Shell, E: Env>(
 {
     let mut row = row_for(alloc, offers)?;
     gather(env, channels, offers);
-    shell.drive(offers, all_up(channels), &mut row);
+    shell.drive(offers, all_up(channels.len()), &mut row);
     Ok(row)
 }
 
@@ -125,7 +120,7 @@ fn run_shell<S: Shell, E: Env>(
     requires running { IsRunning (S.runs shell.old) }
     requires channels { channels.now ≡ (S.map shell.old).channels }
     requires same { channels.now ≡ E.channels env.old }
-    requires few { length channels.now ≤ 32 }
+    requires few { length channels.now ≤ MOST_CHANNELS }
     requires first { E.stands_for env.old [] }
     requires cycles { cycles ≤ MOST_CYCLES }
     ensures run { IfOk result (λ run. (d : Design) (s : Values) (before : Option OneRow) → S.runs shell.old d s before
@@ -158,7 +153,7 @@ fn run_shell<S: Shell, E: Env>(
     })
 }
 
-/// Runs a block in an environment for 1 to 50,000 cycles, from its map's reset on, with all gates up and without a store. Port k of
+/// Runs a block in an environment for 1 to `MOST_CYCLES` cycles, from its map's reset on, with all gates up and without a store. Port k of
 /// the block's design is its net k, as in every lawful design; the map is a map of it, and the environment is over the map's
 /// channels and stands for no row yet.
 ///

@@ -125,11 +125,7 @@ impl Needs {
     }
 
     /// The clocks of so many channels, of which there are at most 128, that these numbers are.
-    pub fn of_numbers(
-        alloc: Global,
-        channels: usize,
-        numbers: Items<u32>,
-    ) -> Result<Needs, Memory>
+    pub fn of_numbers(alloc: Global, channels: usize, numbers: Items<u32>) -> Result<Needs, Memory>
         requires few { channels ≤ 128 }
         requires long { length numbers ≡ channels * channels }
         ensures { IfOk result (λ needs. needs ≡ numbers) }
@@ -169,7 +165,12 @@ impl Needs {
     {
         let channels = self.places.len();
         let place = part(self.places.as_mut_slice(), self.users.as_mut_slice(), c);
-        write_clock(self.clocks.as_mut_slice(), channels * place, channels, number);
+        write_clock(
+            self.clocks.as_mut_slice(),
+            channels * place,
+            channels,
+            number,
+        );
     }
 
     /// Makes the clock of channel `c` that of channel `b`. No number is copied.
@@ -180,6 +181,11 @@ impl Needs {
         ensures others { (n d : ℕ) → length self.old ≡ n * n → d < n → d ≢ c → clock_at n self.new d ≡ clock_at n self.old d }
     {
         let place = usize::from(self.places.as_slice()[b]);
-        move_to(self.places.as_mut_slice(), self.users.as_mut_slice(), c, place);
+        move_to(
+            self.places.as_mut_slice(),
+            self.users.as_mut_slice(),
+            c,
+            place,
+        );
     }
 }

@@ -2,6 +2,7 @@ use Rattle.std.proofs.Common.{ℕ, List, length, ap, sym, subst, ◌∙◌}
 use Rattle.chan_monitor.specs.run_model.Offers.{AreZeroWhileDown}
 use Rattle.env_script.specs.trace_model.declared.channel.Channel.{Channel}
 use Rattle.env_script.specs.trace_model.declared.row.Offers.{Offers}
+use Rattle.env_script.specs.trace_model.Mask
 use Rattle.env_script.specs.trace_model.Row.{all_widths, AreOffers}
 use Rattle.env_script.proofs.trace_model_lemmas.ContentsLemmas.{fit-length}
 use Rattle.chan_monitor.specs.run_model.Played.{all_up}
@@ -30,7 +31,8 @@ pub returns-clause-row : goal.returns-clause-row
 returns-clause-row g c d s before is =
     let m = g.S.Shell.map c.args.shell.now in
     subst (λ (o : Offers). IsShown d m s before o (all_up c.args.channels.now) c.drive.new.row) c.gather.ensures
-    (subst (λ (n : ℕ). IsShown d m s before c.gather.new.offers n c.drive.new.row) c.all_up.ensures (c.drive.ensures.row d s before is))
+    (subst (λ (n : ℕ). IsShown d m s before c.gather.new.offers n c.drive.new.row)
+    (c.all_up.ensures ∙ ap Mask.all_up c.len.ensures) (c.drive.ensures.row d s before is))
 
 pub returns-clause-places : goal.returns-clause-places
 returns-clause-places g c =

@@ -67,7 +67,7 @@ loop-cycle-preserved g c =
           (let going = inv.run d s before is in
           let there = row_before rows (length rows) in
           let shown = shown-of d m (g.S.Shell.map c.loop-cycle.shell) c.args.channels.now offer _ going.now rows row inv.map
-          c.requires.channels o (c.in_ok-row.ensures.row d going.now there going.runs_on) in
+          c.requires.channels o (c.in_ok-row.ensures.row d going.now there going.runs_on) c.in_ok-row.ensures.fresh in
           let step = c.clock.ensures.next d going.now there row (c.in_ok-row.ensures.runs d going.now there going.runs_on)
           c.in_ok-row.ensures.driven in
           going-on (g.S.Shell.runs c.loop-cycle.shell) (g.S.Shell.runs c.clock.new.self) d m (g.S.Shell.map c.next_row.new.shell) offer rows
@@ -135,7 +135,7 @@ returns-in-Some-clause-run g c d s before is =
     let going = inv.run d s before is in
     let there = row_before rows (length rows) in
     let shown = shown-of d m (g.S.Shell.map c.loop-cycle.shell) c.args.channels.now offer _ going.now rows row inv.map c.requires.channels o
-    (c.in_ok-row.ensures.row d going.now there going.runs_on) in
+    (c.in_ok-row.ensures.row d going.now there going.runs_on) c.in_ok-row.ensures.fresh in
     breaks (g.S.Shell.runs c.loop-cycle.shell) d m offer rows row c.in-Some.channel c.loop-cycle.cycle c.args.cycles going shown
     (subst (λ (xs : List Channel). IsBreak xs there row (Some c.in-Some.channel)) c.requires.channels c.in-Some.ensures)
     inv.count c.loop-cycle-test.true
@@ -198,7 +198,7 @@ returns-in_err-push-clause-memory g c =
     let going = inv.run d s before is in
     let there = row_before rows (length rows) in
     let shown = shown-of d m (g.S.Shell.map c.loop-cycle.shell) c.args.channels.now offer _ going.now rows row inv.map c.requires.channels o
-    (c.in_ok-row.ensures.row d going.now there going.runs_on) in
+    (c.in_ok-row.ensures.row d going.now there going.runs_on) c.in_ok-row.ensures.fresh in
     let step = c.clock.ensures.next d going.now there row (c.in_ok-row.ensures.runs d going.now there going.runs_on)
     c.in_ok-row.ensures.driven in
     stands-within (g.S.Shell.runs c.clock.new.self) (g.E.Env.stands_for c.commit.new.self) d m offer (rows ++ row ∷ []) c.args.cycles
