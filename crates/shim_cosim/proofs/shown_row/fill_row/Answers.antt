@@ -18,7 +18,7 @@ returns c =
     c.raised-valids.ensures c.without-row.ensures in
     λ i. record {
       fresh = c.args.row.now.fresh;
-      gates = c.all_up.ensures i;
+      gates = c.all_up-row.ensures i;
       valids = c.raised-valids.ensures i;
       readies = c.raised-row.ensures i;
       contents = contents i;
