@@ -42,15 +42,15 @@ ups-end name done total is so_far =
 
 -- ---- nets
 pub var-text : (n : ℕ) (x : WaveNet)
-    → codes "$var wire " ++ (decimal x.width ++ (32 ∷ (id_of n ++ (32 ∷ (base_of x.name ++ (32 ∷ (ends ++ 10 ∷ [])))))))
+    → codes "$var wire " ++ (decimal x.width ++ (32 ∷ ((id_of n ++ 32 ∷ []) ++ (base_of x.name ++ (32 ∷ (ends ++ 10 ∷ []))))))
     ≡ var_line n x ++ 10 ∷ []
 var-text n x =
     let d = decimal x.width in
     let i = id_of n in
     let b = base_of x.name in
     ap (λ t. codes "$var wire " ++ t)
-    (ap (λ t. d ++ (32 ∷ (i ++ (32 ∷ t)))) (sym (append_assoc b (32 ∷ ends) (10 ∷ [])))
-    ∙ ap (λ t. d ++ (32 ∷ t)) (sym (append_assoc i (32 ∷ (b ++ 32 ∷ ends)) (10 ∷ [])))
+    (ap (λ t. d ++ (32 ∷ ((i ++ 32 ∷ []) ++ t))) (sym (append_assoc b (32 ∷ ends) (10 ∷ [])))
+    ∙ ap (λ t. d ++ (32 ∷ t)) (append_assoc i (32 ∷ []) ((b ++ 32 ∷ ends) ++ 10 ∷ []) ∙ sym (append_assoc i (32 ∷ (b ++ 32 ∷ ends)) (10 ∷ [])))
     ∙ sym (append_assoc d (32 ∷ (i ++ 32 ∷ (b ++ 32 ∷ ends))) (10 ∷ [])))
 
 pub nets-more : (nets : List WaveNet) (n : ℕ) (x : WaveNet) (at done total : List ℕ) → n < length nets → x ≡ get_or nets n x

@@ -5,6 +5,7 @@ pub mod Wave
 pub mod Text
 pub mod Reading
 pub mod Steps
+pub mod Places
 pub mod Matching
 pub mod MatchingLaws
 pub mod Example

@@ -63,8 +63,7 @@ fn print_var<P: Page>(page: &mut P, n: usize, net: &WaveNet)
     page.print(b"$var wire ");
     print_number(page, net.width);
     page.print(b" ");
-    print_id(page, n);
-    page.print(b" ");
+    print_id(page, n, b' ');
     page.print(base_of(net.name.as_slice()));
     page.print(b" $end\n");
 }

@@ -1,47 +1,60 @@
 //! The lines of rows, printed.
 
-ghost use Rattle.std.specs.Prelude.{◌≡◌, ◌<◌, ◌≤◌, ◌+◌, ◌^◌, ◌++◌, ◌∷◌, [], ◌==◌, if◌then◌else◌, length, IfSome};
+ghost use Rattle.std.specs.Prelude.{◌≡◌, ◌<◌, ◌≤◌, ◌+◌, ◌-◌, ◌^◌, drop, ◌++◌, ◌∷◌, [], ◌==◌, if◌then◌else◌, length, IfSome};
 ghost use Rattle.std.specs.Option.{option_copied};
 ghost use Rattle.wave_text.specs.Digits.{id_of, binary};
+ghost use Rattle.wave_text.specs.Places.{number_room};
 ghost use Rattle.wave_text.specs.Text as said;
 ghost use Rattle.wave_text.specs.Wave.{FitsRow};
 
 use crate::wave::WaveNet;
 use text_page::{Page, print_number};
 
+/// How many bytes a number of many bits takes before its ID: a letter, 128 digits and a space.
+const NUMBER_ROOM: usize = 130;
+
 /// Prints one byte.
-pub(crate) fn print_byte<P: Page>(page: &mut P, byte: u8)
+fn print_byte<P: Page>(page: &mut P, byte: u8)
     ensures { P.went page.old page.new (byte ∷ []) }
 {
     page.print(&[byte]);
 }
 
-/// Prints the ID of a net.
-pub(crate) fn print_id<P: Page>(page: &mut P, n: usize)
-    ensures { P.went page.old page.new (id_of n) }
+/// Prints the ID of a net, and one byte more.
+pub(crate) fn print_id<P: Page>(page: &mut P, n: usize, after: u8)
+    ensures { P.went page.old page.new (id_of n ++ after ∷ []) }
 {
     if n < 94 {
-        print_byte(page, 33 + n as u8);
+        page.print(&[33 + n as u8, after]);
         return;
     }
     print_byte(page, 33 + (n % 94) as u8);
-    print_id(page, n / 94);
+    print_id(page, n / 94, after);
 }
 
-/// Prints a number in binary digits.
-fn print_binary<P: Page>(page: &mut P, x: u128)
-    ensures { P.went page.old page.new (binary x) }
+/// Writes a number of many bits, as it stands before its ID, up to the space that ends the places. It begins at the place
+/// that is answered.
+fn put_number(places: &mut [u8], x: u128) -> usize
+    requires room { length places.old ≡ number_room }
+    requires space { drop (number_room - 1) places.old ≡ 32 ∷ [] }
+    ensures at { result ≤ length places.new }
+    ensures room { length places.new ≡ number_room }
+    ensures text { drop result places.new ≡ 98 ∷ (binary x ++ 32 ∷ []) }
 {
-    if x < 2 {
-        print_byte(page, 48 + x as u8);
-        return;
+    let mut at = NUMBER_ROOM - 1;
+    let mut rest = x;
+    'digits: while 2 <= rest {
+        at -= 1;
+        places[at] = 48 + (rest % 2) as u8;
+        rest /= 2;
     }
-    print_binary(page, x / 2);
-    print_byte(page, 48 + (x % 2) as u8);
+    places[at - 1] = 48 + rest as u8;
+    places[at - 2] = b'b';
+    at - 2
 }
 
 /// Prints a number as it stands before its ID.
-fn print_head<P: Page>(page: &mut P, width: u32, x: u128)
+fn print_number_of<P: Page>(page: &mut P, width: u32, x: u128)
     requires { x < 2 ^ width }
     ensures { P.went page.old page.new (if width == 1 then (48 + x) ∷ [] else 98 ∷ (binary x ++ 32 ∷ [])) }
 {
@@ -49,9 +62,9 @@ fn print_head<P: Page>(page: &mut P, width: u32, x: u128)
         print_byte(page, 48 + x as u8);
         return;
     }
-    print_byte(page, b'b');
-    print_binary(page, x);
-    print_byte(page, b' ');
+    let mut places = [b' '; NUMBER_ROOM];
+    let at = put_number(&mut places, x);
+    page.print(&places[at..]);
 }
 
 /// Prints the line of a net's number.
@@ -59,9 +72,8 @@ fn print_value<P: Page>(page: &mut P, n: usize, width: u32, x: u128)
     requires { x < 2 ^ width }
     ensures { P.went page.old page.new (said.value_line n width x ++ 10 ∷ []) }
 {
-    print_head(page, width, x);
-    print_id(page, n);
-    print_byte(page, b'\n');
+    print_number_of(page, width, x);
+    print_id(page, n, b'\n');
 }
 
 /// Prints the line of a net's number, where it isn't the one before.

@@ -3,5 +3,5 @@ use Rattle.wave_text.proofs.RowText.{value-parts}
 use Rattle.wave_text.proofs.value_lines.print_value.Goals as goal
 
 pub returns : goal.returns
-returns g c = subst (λ (x : List ℕ). g.P.Page.went c.args.page.now c.print_byte.new.page x) (value-parts c.args.n c.args.width c.args.x)
-    (g.met.P.Page.onward _ _ _ _ _ c.print_head.ensures (g.met.P.Page.onward _ _ _ _ _ c.print_id.ensures c.print_byte.ensures))
+returns g c = subst (λ (x : List ℕ). g.P.Page.went c.args.page.now c.print_id.new.page x) (value-parts c.args.n c.args.width c.args.x)
+    (g.met.P.Page.onward _ _ _ _ _ c.print_number_of.ensures c.print_id.ensures)
