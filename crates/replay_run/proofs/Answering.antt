@@ -2,6 +2,7 @@
 use Rattle.std.proofs.Common.{◌≡◌, ℕ, ◌+◌, ◌≤◌, List, length, cond, ap, sym, subst, ◌∙◌, arith}
 use Rattle.trace_code.specs.trace_model.declared.channel.Channel.{Channel}
 use Rattle.trace_code.specs.trace_model.declared.packet.Packet.{Packet}
+use Rattle.trace_code.specs.trace_model.declared.packet.TheConstants.{MOST_CYCLES}
 use Rattle.trace_code.specs.trace_model.declared.row.Row.{Row}
 use Rattle.trace_code.specs.trace_model.declared.trace.Trace.{Trace}
 use Rattle.trace_code.specs.trace_model.Channel.{IsTable}
@@ -58,7 +59,7 @@ well-formed : (t : Trace) (channels : List Channel) → t.channels ≡ channels 
 well-formed t channels e has = subst (λ (cs : List Channel). IsWellFormed (record { channels = cs; packets = t.packets })) e has.well_formed
 
 pub replayed : (d : Design) (m : Map) (t : Trace) (n : ℕ) (runs : Design → Values → List Row → Type 0) (last : Row) (rows : List Row)
-    (answer : Replayed) → t.channels ≡ m.channels → HasEncoding t → n ≤ 50000 → Plays d m t.packets runs last rows
+    (answer : Replayed) → t.channels ≡ m.channels → HasEncoding t → n ≤ MOST_CYCLES → Plays d m t.packets runs last rows
     → EndsAs d m t.packets n rows answer.outcome → answer.out ≡ encode (trace_of m.channels rows) → IsReplayed d m t.packets n runs answer
 replayed d m t n runs last rows answer same has small at ends out =
     let laws = replay-keeps_contents d m t.packets rows at.replay at.stable in

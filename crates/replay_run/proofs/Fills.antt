@@ -5,7 +5,7 @@ use Rattle.std.specs.Prelude.{◌↔◌}
 use Rattle.std.specs.Int.{bit_at}
 use Rattle.std.proofs.Math.Nat.{mul-le-mul_left}
 use Rattle.std.proofs.lemmas.Bool.{cases_Bool, cases_eq, cases_lt, false≢true}
-use Rattle.std.proofs.lemmas.List.{get_or-set_other, get_or-set_same, length-take-le, take_all, take_more}
+use Rattle.std.proofs.lemmas.List.{get_or_past, length-take-le, take_all, take_more}
 use Rattle.std.proofs.lemmas.Nat.{pow_pos}
 use Rattle.std.proofs.lemmas.Option.{same_Some, slice_get_read, slice_get_within}
 use Rattle.trace_code.specs.vidi_bits.Number.{has}
@@ -28,34 +28,23 @@ use Rattle.trace_code.specs.Stands.{Stands}
 use Rattle.chan_replayer.proofs.run_model_lemmas.Contents.{fit-zeros, has-all}
 use Rattle.chan_replayer.proofs.run_model_lemmas.PinLemmas.{all-at}
 use Rattle.chan_replayer.specs.declared.feed.Feed.{Feed}
+use Rattle.chan_replayer.specs.Needs.{clock_at}
+use Rattle.chan_replayer.proofs.Sharing.{number-at}
 use Rattle.chan_replayer.specs.Feed.{kind_of, need_of, IsFeed, IsFeedAt, IsFeedOver}
 use Rattle.replay_run.specs.Behind.{IsBehind}
 use Rattle.replay_run.specs.Feeding.{IsClockBefore, IsFedBefore, IsFeedBut, IsSameAt}
 use Rattle.replay_run.proofs.Placing.{content-here, content-other, fit-replaced, room-at, still-below}
 
 -- ---- a clock
-pub needs-here : (f : ℕ → ℕ) (xs : List ℕ) (at d y : ℕ) → at + d < length xs → y ≡ f d
-    → ((e : ℕ) → e < d → get_or xs (at + e) 0 ≡ f e) → (e : ℕ) → e < d + 1 → get_or (set xs (at + d) y) (at + e) 0 ≡ f e
-needs-here f xs at d y within is so_far e l = ⊎_elim
-    (λ (h : e ≡ d). ap (λ k. get_or (set xs (at + d) y) (at + k) 0) h ∙ get_or-set_same xs (at + d) y 0 within ∙ is ∙ ap f (sym h))
-    (λ (ne : e ≡ d → ⊥). get_or-set_other xs (at + d) (at + e) y 0 (λ k. ne (omega (arith, k))) ∙ so_far e (omega (arith, l, ne)))
-    (cases_eq e d)
-
-pub needs-others : (xs old : List ℕ) (at n d y : ℕ) → d < n → ((i : ℕ) → (i < at) ⊎ (at + n ≤ i) → get_or xs i 0 ≡ get_or old i 0)
-    → (i : ℕ) → (i < at) ⊎ (at + n ≤ i) → get_or (set xs (at + d) y) i 0 ≡ get_or old i 0
-needs-others xs old at n d y l so_far i side =
-    get_or-set_other xs (at + d) i y 0 (λ e. ⊎_elim
-    (λ (b : i < at). absurd (omega (arith, e, b)))
-    (λ (b : at + n ≤ i). absurd (omega (arith, e, b, l)))
-    side)
-    ∙ so_far i side
-
--- two channels' clocks stand apart
-pub apart : (n c d e : ℕ) → d ≢ c → e < n → (n * d + e < n * c) ⊎ (n * c + n ≤ n * d + e)
-apart n c d e ne l = ⊎_elim
-    (λ (b : d < c). (let le : d + 1 ≤ c = omega (arith, b) in let m = mul-le-mul_left n le in inl (omega (arith, m, l))))
-    (λ (b : c ≤ d). (let le : c + 1 ≤ d = omega (arith, b, ne) in let m = mul-le-mul_left n le in inr (omega (arith, m))))
-    (cases_lt d c)
+-- a clock that stays has the numbers that it had
+pub number-stays : (n : ℕ) (old new : List ℕ) (d e : ℕ) → length old ≡ n * n → length new ≡ length old
+    → (d < n → clock_at n new d ≡ clock_at n old d) → e < n → get_or new (n * d + e) 0 ≡ get_or old (n * d + e) 0
+number-stays n old new d e long same stays l = ⊎_elim
+    (λ (b : d < n). sym (number-at n new d e l) ∙ ap (λ xs. get_or xs e 0) (stays b) ∙ number-at n old d e l)
+    (λ (b : n ≤ d).
+    let m = mul-le-mul_left n b in
+    get_or_past new (n * d + e) 0 (omega (arith, m, long, same)) ∙ sym (get_or_past old (n * d + e) 0 (omega (arith, m, long))))
+    (cases_lt d n)
 
 -- ---- a content
 -- the numbers of a start fit its channel's ports

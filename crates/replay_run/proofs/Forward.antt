@@ -1,23 +1,30 @@
 -- Cursors behind so many completions.
-use Rattle.std.proofs.Common.{◌≡◌, ℕ, suc, ◌+◌, ◌<◌, ◌≤◌, min, Bool, true, false, cond, List, [], ◌∷◌, ◌++◌, Some, length, get_or, set, slice_get, ltb, refl, sym, ap, subst, ◌∙◌, arith, ⊎_elim}
+use Rattle.std.proofs.Common.{◌≡◌, ℕ, suc, ◌+◌, ◌<◌, ◌≤◌, min, Bool, true, false, cond, List, [], ◌∷◌, ◌++◌, Some, All, length, get_or, set, slice_get, ltb, refl, sym, ap, subst, ◌∙◌, arith, ⊎_elim}
 use Rattle.std.specs.Prelude.{◌↔◌}
 use Rattle.std.proofs.lemmas.Bool.{cases_lt, false≢true}
+use Rattle.trace_code.specs.trace_model.declared.channel.Channel.{Channel}
+use Rattle.trace_code.specs.trace_model.declared.channel.Dir.{Dir}
+use Rattle.trace_code.specs.trace_model.declared.channel.Dir.TheVariants.{Inward, Outward}
 use Rattle.trace_code.specs.trace_model.declared.event.Kind.{Kind}
-use Rattle.trace_code.specs.trace_model.declared.event.Kind.TheVariants.{Start, End}
+use Rattle.trace_code.specs.trace_model.declared.event.Kind.TheVariants.{Start, End, Reset}
 use Rattle.trace_code.specs.trace_model.declared.packet.Packet.{Packet}
 use Rattle.trace_code.specs.trace_model.declared.row.Row.{Row}
 use Rattle.trace_code.specs.trace_model.declared.trace.Trace.{Trace}
-use Rattle.trace_code.specs.trace_model.Packet.{count}
+use Rattle.trace_code.specs.trace_model.Channel.{IsTable}
+use Rattle.trace_code.specs.trace_model.Packet.{count, does, IsPacket}
 use Rattle.trace_code.specs.trace_model.Row.{is_in_flight}
 use Rattle.trace_code.specs.trace_model.Trace.{Alternates}
 use Rattle.trace_code.proofs.trace_model_lemmas.FlightLemmas.{balanced-all}
-use Rattle.trace_code.proofs.trace_model_lemmas.CountingLemmas.{slice_get-push}
+use Rattle.trace_code.proofs.trace_model_lemmas.CountingLemmas.{count-cons, slice_get-push}
 use Rattle.trace_code.specs.declared.cursor.Cursor.{Cursor}
 use Rattle.trace_code.specs.Encoding.{Encodes}
 use Rattle.trace_code.specs.Stands.{Stands, WalksOver}
-use Rattle.replay_run.specs.Behind.{AreAt, IsBehind, IsDone}
+use Rattle.chan_replayer.specs.Feed.{kind_of}
+use Rattle.replay_run.specs.Behind.{AreAt, AreBehind, IsBehind, IsDone}
+use Rattle.replay_run.specs.declared.cursors.Cursors.{Cursors}
 use Rattle.std.specs.Int.{bit_at}
 use Rattle.std.proofs.Math.ListN.{length-set}
+use Rattle.std.proofs.lemmas.List.Elements.{All-head, All-tail}
 use Rattle.trace_code.specs.vidi_bits.Number.{has}
 use Rattle.trace_code.proofs.trace_model_lemmas.MaskLemmas.{bit-from-has, no-bit-from-has}
 use Rattle.std.proofs.lemmas.Bool.{cases_eq, lt-ltb, le-ltb}
@@ -90,6 +97,36 @@ done-idle packets have last c f l =
 pub cursor-there : (t : Trace) (kind : Kind) (have : ℕ → ℕ) (cursors : List Cursor) (c : ℕ) (k : Cursor) → AreAt t kind have cursors
     → c < length cursors → k ≡ get_or cursors c k → IsBehind t kind c (have c) k
 cursor-there t kind have cursors c k are l e = are.each c k (slice_get_read cursors (length cursors) c k refl l e)
+
+-- ---- resets
+-- replayers control starts and completions
+pub controlled-kind : (dir : Dir) (kind : Kind) → kind ≡ kind_of dir → kind ≡ Reset → ⊥
+controlled-kind Inward kind is reset = let e = sym is ∙ reset in absurd (cc)
+controlled-kind Outward kind is reset = let e = sym is ∙ reset in absurd (cc)
+
+-- no packet of a lawful trace is one
+none-of : (channels : List Channel) (packets : List Packet) (c : ℕ) → All (IsPacket channels) packets → count Reset c packets ≡ 0
+none-of channels [] c each = refl
+none-of channels (p ∷ ps) c each =
+    let here = (All-head (IsPacket channels) p ps each).plain.1 in
+    let rest = none-of channels ps c (All-tail (IsPacket channels) p ps each) in
+    let bit : cond {A = ℕ} p.reset 1 0 ≡ 0 = ap (λ b. cond {A = ℕ} b 1 0) here in
+    count-cons (does Reset c) p ps ∙ omega (arith, bit, rest)
+
+first-of : (ks : List Cursor) → 0 < length ks → (k : Cursor) × (slice_get ks 0 ≡ Some k)
+first-of [] l = absurd (omega (arith, l))
+first-of (k ∷ ks) l = (k, refl)
+
+pub no-reset : (t : Trace) (have : ℕ → ℕ) (cursors : Cursors) → AreBehind t have cursors → 1 ≤ length t.channels
+    → (c : ℕ) → count Reset c t.packets ≡ 0
+no-reset t have cursors are some c =
+    let many = are.starts.many in
+    let within : 0 < length cursors.starts.items = omega (arith, many, some) in
+    let k = first-of cursors.starts.items within in
+    none-of t.channels t.packets c (are.starts.each 0 k.0 k.1).stands.0.at.encoding.well_formed.packets
+
+pub table-some : (t : Trace) (channels : List Channel) → t.channels ≡ channels → IsTable channels → 1 ≤ length t.channels
+table-some t channels same table = subst (λ (cs : List Channel). 1 ≤ length cs) (sym same) table.some
 
 -- ---- all of them
 abbrev pub moved : (ℕ → ℕ) → ℕ → ℕ → ℕ → ℕ

@@ -210,8 +210,9 @@ module _ (t : Trace) (rows : List Row) (c : ℕ) (e : Event) (k : Cursor) (r : B
   wait-put new past not-held n = n ∙ ap (λ xs. out ++ xs) (sym (wait-here past
       ∙ cond-true (not (is_held helds e)) (e ∷ []) [] (ap not not-held)))
 
-pub event-known : (e : Event) (c n : ℕ) → e.channel ≡ c → e.index ≡ n → e ≡ event c e.kind n
-event-known e c n channel index = ap (λ d. event d e.kind e.index) channel ∙ ap (event c e.kind) index
+pub event-known : (e : Event) (c n : ℕ) → e.channel ≡ c → e.index ≡ n → e.epoch ≡ 0 → e ≡ event c e.kind n
+event-known e c n channel index epoch =
+    λ i. record { channel = channel i; kind = e.kind; index = index i; epoch = epoch i }
 
 pub waits-each : (helds : List Held) (packets : List Packet) (rows : List Row) (channels : List Channel)
     → flat_map (λ (d : ℕ × Channel). waits_on helds packets rows d.0) (enumerate_from 0 channels)

@@ -7,11 +7,13 @@ use Rattle.std.proofs.lemmas.Bool.{cases_lt, false≢true}
 use Rattle.std.proofs.lemmas.List.{length_push, take-append-le, take_all}
 use Rattle.std.proofs.lemmas.Nat.Bits.{bit_at-zero}
 use Rattle.trace_code.specs.vidi_bits.Number.{has}
-use Rattle.trace_code.specs.trace_model.declared.event.Kind.TheVariants.{Start, End}
+use Rattle.trace_code.specs.trace_model.declared.event.Kind.TheVariants.{Start, End, Reset}
 use Rattle.trace_code.specs.trace_model.declared.packet.Packet.{Packet}
 use Rattle.trace_code.specs.trace_model.declared.row.Row.{Row}
 use Rattle.trace_code.specs.trace_model.declared.trace.Trace.{Trace}
 use Rattle.trace_code.specs.trace_model.declared.channel.Channel.{Channel}
+use Rattle.trace_code.specs.trace_model.Length.{longest_packet}
+use Rattle.trace_code.specs.trace_model.Packet.{count}
 use Rattle.trace_code.specs.trace_model.Recording.{row_does, shown}
 use Rattle.trace_code.specs.trace_model.Row.{flies_after, is_in_flight, row_before, IsOver}
 use Rattle.trace_code.proofs.trace_model_lemmas.CountingLemmas.{count-push}
@@ -28,13 +30,17 @@ use Rattle.chan_replayer.specs.Feed.{IsFeedOver}
 use Rattle.chan_replayer.proofs.run_model_lemmas.ReplayLaws.{replay-keeps}
 use Rattle.chan_replayer.proofs.run_model_lemmas.Stays.{keeps-in-flight}
 use Rattle.replay_run.specs.Behind.{IsDone}
-use Rattle.replay_run.specs.Output.{longest, HasRoomFor, IsWritten}
+use Rattle.replay_run.specs.Output.{HasRoomFor, IsWritten}
 use Rattle.replay_run.specs.Standing.{AreKept, IsLast, Plays, PlaysTo}
 use Rattle.replay_run.specs.declared.play.Cells.{Cells}
 use Rattle.replay_run.specs.declared.play.Ending.TheVariants.{Ended, Short, Unstable}
 use Rattle.replay_run.proofs.Writing.{room-less}
 
 -- ---- whether the trace has ended
+-- no packet is a reset
+abbrev pub NoReset : List Packet → Type 0
+NoReset packets = (c : ℕ) → count Reset c packets ≡ 0
+
 pub flight-last : (o : Option Row) (last : Row) (c : ℕ) → IsLast o last → is_in_flight last c ≡ flies_after o c
 flight-last None last c e =
     let none : has last.valids c ≡ false = ap (λ m. has m c) e ∙ ap (λ k. k == 1) (bit_at-zero c) in
@@ -54,18 +60,19 @@ module _ (d : Design) (m : Map) (packets : List Packet) (runs : Design → Value
   abbrev AllShown : Type 0
   AllShown = (c : ℕ) → c < length m.channels → IsDone packets (done rows) last c
 
-  by-kind : AllShown → HasEnded (length m.channels) packets rows
-  by-kind all Start c l = let b = balance c in let s = (all c l).starts in omega (arith, b, s)
-  by-kind all End c l = (all c l).ends
+  by-kind : NoReset packets → AllShown → HasEnded (length m.channels) packets rows
+  by-kind none all Start c l = let b = balance c in let s = (all c l).starts in omega (arith, b, s)
+  by-kind none all End c l = (all c l).ends
+  by-kind none all Reset c l = let z = none c in omega (arith, z)
 
-  pub ended-when : (r : Bool) → ((r ≡ true) ↔ AllShown) → (r ≡ true) ↔ HasEnded (length m.channels) packets rows
-  ended-when r says = (
-    λ t. by-kind (says.0 t),
+  pub ended-when : NoReset packets → (r : Bool) → ((r ≡ true) ↔ AllShown) → (r ≡ true) ↔ HasEnded (length m.channels) packets rows
+  ended-when none r says = (
+    λ t. by-kind none (says.0 t),
     λ (h : HasEnded (length m.channels) packets rows). says.1 (λ c l. record { ends = h End c l; starts = let b = balance c in let s = h Start c l in omega (arith, b, s) }),
   )
 
-  pub not-ended : (r : Bool) → r ≡ false → ((r ≡ true) ↔ AllShown) → ¬ HasEnded (length m.channels) packets rows
-  not-ended r f says h = false≢true (sym f ∙ (ended-when r says).1 h)
+  pub not-ended : NoReset packets → (r : Bool) → r ≡ false → ((r ≡ true) ↔ AllShown) → ¬ HasEnded (length m.channels) packets rows
+  not-ended none r f says h = false≢true (sym f ∙ (ended-when none r says).1 h)
 
 -- ---- one row more
 pub going-push : (n : ℕ) (packets : List Packet) (rows : List Row) (row : Row) → IsGoing n packets rows → ¬ HasEnded n packets rows
@@ -87,7 +94,7 @@ done-push rows row ends e = λ i c. one c i
 
 -- ---- the end of the cycles
 module _ (d : Design) (m : Map) (t : Trace) (runs : Design → Values → List Row → Type 0) (last : Row) (rows : List Row)
-    (at : Plays d m t.packets runs last rows) (same : t.channels ≡ m.channels) where
+    (at : Plays d m t.packets runs last rows) (same : t.channels ≡ m.channels) (none : NoReset t.packets) where
   abbrev Says : Bool → Type 0
   Says r = (r ≡ true) ↔ ((c : ℕ) → c < length t.channels → IsDone t.packets (done rows) last c)
 
@@ -95,7 +102,7 @@ module _ (d : Design) (m : Map) (t : Trace) (runs : Design → Values → List R
   says-here r says = subst (λ (n : ℕ). (r ≡ true) ↔ ((c : ℕ) → c < n → IsDone t.packets (done rows) last c)) (ap length same) says
 
   pub goes-on : (r : Bool) → r ≡ false → Says r → ¬ HasEnded (length m.channels) t.packets rows
-  goes-on r f says = not-ended d m t.packets runs last rows at r f (says-here r says)
+  goes-on r f says = not-ended d m t.packets runs last rows at none r f (says-here r says)
 
   pub ends-ended : (n cycles : ℕ) → IsGoing (length m.channels) t.packets rows → length rows ≡ cycles → cycles ≤ n → (r : Bool)
       → r ≡ true → Says r → PlaysTo d m t.packets n rows (Ended cycles)
@@ -104,7 +111,7 @@ module _ (d : Design) (m : Map) (t : Trace) (runs : Design → Values → List R
       played = at.replay;
       stable = at.stable;
       within = omega (arith, long, within);
-      ended = (ended-when d m t.packets runs last rows at r (says-here r says)).0 h;
+      ended = (ended-when d m t.packets runs last rows at none r (says-here r says)).0 h;
       shortest = going;
     },
     sym long,
@@ -140,18 +147,21 @@ kept-less channels n less rows cells l is = record {
   feed = is.feed;
   places = is.places;
   over = is.over;
+  fresh = is.fresh;
   long = is.long;
   counts = is.counts;
   written = is.written;
-  room = room-less cells.output.len n less (longest channels) (length cells.output.bytes.items) l is.room;
+  room = room-less cells.output.len n less (longest_packet channels) (length cells.output.bytes.items) l is.room;
 }
 
 pub kept-cells : (channels : List Channel) (n : ℕ) (rows : List Row) (old new : Cells) → new.feed ≡ old.feed → new.have ≡ old.have
-    → new.output ≡ old.output → HasPlaces channels new.row → IsOver channels new.last → AreKept channels n rows old → AreKept channels n rows new
-kept-cells channels n rows old new f h o places over is = record {
+    → new.output ≡ old.output → HasPlaces channels new.row → IsOver channels new.last → (new.row.fresh ≡ false) × (new.last.fresh ≡ false)
+    → AreKept channels n rows old → AreKept channels n rows new
+kept-cells channels n rows old new f h o places over fresh is = record {
   feed = subst (IsFeedOver channels) (sym f) is.feed;
   places = places;
   over = over;
+  fresh = fresh;
   long = ap length h ∙ is.long;
   counts = λ c l. ap (λ (xs : List ℕ). slice_index xs c) h ∙ is.counts c l;
   written = subst (IsWritten channels rows) (sym o) is.written;

@@ -1,15 +1,12 @@
 -- A replay ends in exactly one way.
-use Rattle.std.proofs.Common.{◌≡◌, ◌⊎◌, ℕ, zero, suc, ◌+◌, ◌<◌, ◌≤◌, List, [], ◌∷◌, ◌++◌, Option, None, Some, inl, inr}
+use Rattle.std.proofs.Common.{◌≡◌, ℕ, zero, suc, ◌+◌, ◌<◌, ◌≤◌, List, [], ◌∷◌, ◌++◌, Option, None, Some}
 use Rattle.std.proofs.Common.{length, take, slice_get, refl, ap, sym, subst, ◌∙◌, arith, ⊎_elim}
 use Rattle.std.proofs.Math.Logic.{∥∥₁_map}
 use Rattle.std.proofs.lemmas.Bool.{cases_lt}
 use Rattle.std.proofs.lemmas.List.{take_at, take-take, length-take-le, length_push}
 use Rattle.std.proofs.lemmas.Option.{same_Some}
-use Rattle.trace_code.specs.trace_model.declared.event.Kind.TheVariants.{Start, End}
 use Rattle.trace_code.specs.trace_model.declared.packet.Packet.{Packet}
 use Rattle.trace_code.specs.trace_model.declared.row.Row.{Row}
-use Rattle.trace_code.specs.trace_model.Packet.{count}
-use Rattle.trace_code.specs.trace_model.Recording.{shown}
 use Rattle.trace_code.specs.trace_model.Row.{row_before}
 use Rattle.trace_code.specs.trace_model.Stability.{IsLowestUnstable, IsUnstable}
 use Rattle.trace_code.proofs.trace_model_lemmas.CountingLemmas.{slice_get-take}
@@ -19,6 +16,7 @@ use Rattle.chan_replayer.specs.run_model.declared.held.Held.{Held}
 use Rattle.chan_replayer.specs.run_model.Held.{held, waits}
 use Rattle.chan_replayer.specs.run_model.Played.{AreStable, StopsBefore}
 use Rattle.chan_replayer.specs.run_model.Replay.{HasEnded, IsGoing, IsReplay, IsReplayRow}
+use Rattle.chan_replayer.proofs.run_model_lemmas.Deciding.{ended-or-not}
 use Rattle.chan_replayer.proofs.run_model_lemmas.PlayedLaws.{played-front, row-before_take}
 use Rattle.chan_replayer.proofs.run_model_lemmas.ReplayLaws.{one-replay}
 use Rattle.chan_replayer.proofs.run_model_lemmas.Unstable.{lowest, lowest-one, row-at, stable-next, stops-here}
@@ -26,34 +24,6 @@ use Rattle.replay_run.specs.declared.outcome.ReplayOutcome.{ReplayOutcome}
 use Rattle.replay_run.specs.declared.outcome.ReplayOutcome.TheVariants.{Ended, Short, Unstable}
 use Rattle.replay_run.specs.Laws.{OneOutcome}
 use Rattle.replay_run.specs.Replaying.{EndsAs}
-
--- ---- whether a trace has ended
-all-or-not : (n : ℕ) (x y : ℕ → ℕ) → ((c : ℕ) → c < n → x c ≤ y c) ⊎ (((c : ℕ) → c < n → x c ≤ y c) → ⊥)
-all-or-not zero x y = inl (λ c l. absurd (omega (arith, l)))
-all-or-not (suc n) x y = ⊎_elim
-    (λ (h : y n < x n). inr (λ all. (let a = all n (omega arith) in absurd (omega (arith, a, h)))))
-    (λ (h : x n ≤ y n). ⊎_elim
-    (λ (below : (c : ℕ) → c < n → x c ≤ y c). inl (λ c l. ⊎_elim
-    (λ (m : c < n). below c m)
-    (λ (m : n ≤ c). subst (λ k. x k ≤ y k) (let e : n ≡ c = omega (arith, l, m) in e) h)
-    (cases_lt c n)))
-    (λ (none : ((c : ℕ) → c < n → x c ≤ y c) → ⊥). inr (λ all. none (λ c l. all c (omega (arith, l)))))
-    (all-or-not n x y))
-    (cases_lt (y n) (x n))
-
-ended-or-not : (n : ℕ) (packets : List Packet) (rows : List Row) → HasEnded n packets rows ⊎ (HasEnded n packets rows → ⊥)
-ended-or-not n packets rows = ⊎_elim
-    (λ (starts : (c : ℕ) → c < n → count Start c packets ≤ shown Start c rows). ⊎_elim
-    (λ (ends : (c : ℕ) → c < n → count End c packets ≤ shown End c rows). inl (both starts ends))
-    (λ (none : ((c : ℕ) → c < n → count End c packets ≤ shown End c rows) → ⊥). inr (λ h. none (h End)))
-    (all-or-not n (λ c. count End c packets) (λ c. shown End c rows)))
-    (λ (none : ((c : ℕ) → c < n → count Start c packets ≤ shown Start c rows) → ⊥). inr (λ h. none (h Start)))
-    (all-or-not n (λ c. count Start c packets) (λ c. shown Start c rows))
-  where
-    both : ((c : ℕ) → c < n → count Start c packets ≤ shown Start c rows) → ((c : ℕ) → c < n → count End c packets ≤ shown End c rows)
-        → HasEnded n packets rows
-    both starts ends Start = starts
-    both starts ends End = ends
 
 module _ (d : Design) (m : Map) (packets : List Packet) where
   -- ---- the rows, however they end

@@ -1,5 +1,5 @@
 -- A row in which nothing is up is one over its channels.
-use Rattle.std.proofs.Common.{◌≡◌, List, length, replicate, refl, subst, sym}
+use Rattle.std.proofs.Common.{◌≡◌, false, List, length, replicate, refl, subst, sym}
 use Rattle.std.proofs.lemmas.Nat.{pow_pos}
 use Rattle.trace_code.specs.trace_model.declared.channel.Channel.{Channel}
 use Rattle.trace_code.specs.trace_model.declared.row.Row.{Row}
@@ -8,6 +8,7 @@ use Rattle.chan_replayer.proofs.run_model_lemmas.Contents.{fit-zeros}
 
 abbrev pub silent : List Channel → Row
 silent channels = record {
+  fresh = false;
   gates = 0;
   valids = 0;
   readies = 0;
@@ -27,11 +28,13 @@ over-silent channels = record {
 }
 
 pub silent_over : (channels : List Channel) (row : Row) → row ≡ record {
+  fresh = false;
   gates = 0;
   valids = 0;
   readies = 0;
   contents = replicate (length (all_widths channels)) 0;
   starts = 0;
   ends = 0;
-} → (row.valids ≡ 0) × IsOver channels row
-silent_over channels row e = subst (λ (r : Row). (r.valids ≡ 0) × IsOver channels r) (sym e) (refl, over-silent channels)
+} → (row.valids ≡ 0) × IsOver channels row × (row.fresh ≡ false)
+silent_over channels row e =
+    subst (λ (r : Row). (r.valids ≡ 0) × IsOver channels r × (r.fresh ≡ false)) (sym e) (refl, over-silent channels, refl)

@@ -5,19 +5,19 @@ use Rattle.std.specs.List.{filter, flat_map}
 use Rattle.std.proofs.lemmas.List.{length-map, take_at}
 use Rattle.trace_code.specs.trace_model.declared.channel.Channel.{Channel}
 use Rattle.trace_code.specs.trace_model.declared.row.Row.{Row}
-use Rattle.trace_code.specs.trace_model.Length.{contents_len, head_len, packet_len}
+use Rattle.trace_code.specs.trace_model.Length.{contents_len, head_len, longest_packet, packet_len}
 use Rattle.trace_code.specs.trace_model.Recording.{has_event, packet_of, packets_of, trace_of}
 use Rattle.trace_code.specs.Encoding.{encode, end_mark, header_bytes, packet_bytes, row_bytes}
 use Rattle.trace_code.proofs.RowBytes.{contents_len-widths, contents-least}
-use Rattle.replay_run.specs.Output.{longest, IsWritten}
+use Rattle.replay_run.specs.Output.{IsWritten}
 use Rattle.replay_run.specs.declared.output.Output.{Output}
 use Rattle.replay_run.specs.declared.output.TheConstants.{END_LEN}
 
 -- ---- a packet is no longer than the longest
-pub packet-most : (channels : List Channel) (starts ends : ℕ) → packet_len channels starts ends ≤ longest channels
+pub packet-most : (channels : List Channel) (starts ends : ℕ) → packet_len channels starts ends ≤ longest_packet channels
 packet-most channels starts ends = one (starts == 0 && ends == 0)
   where
-    one : (b : Bool) → cond b 0 (head_len (length channels) + contents_len starts channels) ≤ longest channels
+    one : (b : Bool) → cond b 0 (head_len (length channels) + contents_len starts channels) ≤ longest_packet channels
     one true = omega arith
     one false = let a = contents_len-widths starts channels in let b = contents-least starts channels in omega arith
 

@@ -1,18 +1,13 @@
 -- What is written of a replay's trace, and the room that is left.
-use Rattle.std.specs.Prelude.{◌≡◌, ℕ, ◌+◌, ◌*◌, ◌≤◌, List, ◌++◌, length, sum_by, take}
+use Rattle.std.specs.Prelude.{◌≡◌, ℕ, ◌+◌, ◌*◌, ◌≤◌, List, ◌++◌, length, take}
 use Rattle.std.specs.List.{flat_map}
 use Rattle.trace_code.specs.trace_model.declared.channel.Channel.{Channel}
 use Rattle.trace_code.specs.trace_model.declared.row.Row.{Row}
-use Rattle.trace_code.specs.trace_model.Channel.{content_bytes}
-use Rattle.trace_code.specs.trace_model.Length.{head_len}
+use Rattle.trace_code.specs.trace_model.Length.{longest_packet}
 use Rattle.trace_code.specs.trace_model.Recording.{packets_of}
 use Rattle.trace_code.specs.Encoding.{header_bytes, row_bytes}
 use Rattle.replay_run.specs.declared.output.Output.{Output}
 use Rattle.replay_run.specs.declared.output.TheConstants.{END_LEN}
-
--- the bytes of the longest packet of these channels, in which all of them start
-abbrev pub longest : List Channel → ℕ
-longest channels = head_len (length channels) + sum_by content_bytes channels
 
 -- the header and the packets of these rows are written
 pub record IsWritten (channels : List Channel) (rows : List Row) (output : Output) : Type 0 where
@@ -21,4 +16,4 @@ pub record IsWritten (channels : List Channel) (rows : List Row) (output : Outpu
 
 -- there is room for the packets of n rows, and for the bytes of the end
 abbrev pub HasRoomFor : List Channel → ℕ → Output → Type 0
-HasRoomFor channels n output = output.len + n * longest channels + END_LEN ≤ length output.bytes.items
+HasRoomFor channels n output = output.len + n * longest_packet channels + END_LEN ≤ length output.bytes.items

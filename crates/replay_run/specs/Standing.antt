@@ -1,5 +1,5 @@
 -- Where a replay stands between two cycles.
-use Rattle.std.specs.Prelude.{◌≡◌, ℕ, ◌<◌, List, Option, None, Some, length, slice_index}
+use Rattle.std.specs.Prelude.{◌≡◌, ℕ, ◌<◌, false, List, Option, None, Some, length, slice_index}
 use Rattle.trace_code.specs.trace_model.declared.channel.Channel.{Channel}
 use Rattle.trace_code.specs.trace_model.declared.packet.Packet.{Packet}
 use Rattle.trace_code.specs.trace_model.declared.row.Row.{Row}
@@ -29,11 +29,12 @@ pub record Plays (d : Design) (m : Map) (packets : List Packet) (runs : Design �
   pub stable : AreStable m.channels rows
   pub last_is : IsLast (row_before rows (length rows)) last
 
--- what is kept of these rows, with room for n more
+-- what is kept of these rows, with room for n more; no row is fresh
 pub record AreKept (channels : List Channel) (n : ℕ) (rows : List Row) (cells : Cells) : Type 0 where
   pub feed : IsFeedOver channels cells.feed
   pub places : HasPlaces channels cells.row
   pub over : IsOver channels cells.last
+  pub fresh : (cells.row.fresh ≡ false) × (cells.last.fresh ≡ false)
   pub long : length cells.have ≡ length channels
   pub counts : (c : ℕ) → c < length channels → slice_index cells.have c ≡ done rows c
   pub written : IsWritten channels rows cells.output

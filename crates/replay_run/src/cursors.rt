@@ -1,17 +1,16 @@
 //! Cursors over the events of all channels of a trace.
 
-ghost use Rattle.std.specs.Prelude.{◌≡◌, ◌+◌, ◌<◌, ◌↔◌, ℕ, IsTrue, IfOk, length};
+ghost use Rattle.std.specs.Prelude.{◌≡◌, ◌≢◌, ◌+◌, ◌<◌, ◌↔◌, ℕ, IsTrue, IfOk, length};
 ghost use Rattle.std.specs.Int.{bit_at};
 ghost use Rattle.trace_code.specs.trace_model.declared.event.Kind.{Kind as OneKind};
 ghost use Rattle.trace_code.specs.trace_model.declared.trace.Trace.{Trace};
-ghost use Rattle.trace_code.specs.trace_model.Row.{is_in_flight};
 ghost use Rattle.trace_code.specs.Encoding.{Encodes};
 ghost use Rattle.chan_replayer.specs.Feed.{kind_of};
 ghost use Rattle.replay_run.specs.Behind.{none_yet, AreAt, AreBehind, IsBehind, IsDone};
 
 use std::alloc::Global;
 use trace_code::Cursor;
-use trace_code::trace_model::{Dir, Kind, Row, names};
+use trace_code::trace_model::{Dir, Kind, Row, is_in_flight, names};
 use trace_code::vidi_bits::Memory;
 
 /// For each channel of a trace a cursor over its starts and one over its completions, both behind as many transactions. Only
@@ -71,21 +70,16 @@ fn forward_vec(cursors: &mut Vec<Cursor>, ends: u128)
     forward_all(cursors.as_mut_slice(), ends);
 }
 
-/// Whether a channel is in flight after a row.
-pub(crate) fn is_in_flight(row: &Row, c: usize) -> bool
-    ensures { result ≡ is_in_flight row.now c }
-{
-    names(row.valids, c) && names(row.gates, c) && !names(row.readies, c)
-}
-
-/// The cursor over the events of this kind on a channel.
+/// The cursor over the events of this kind on a channel: its starts or its completions.
 pub(crate) fn cursor_of<'a, 'b>(cursors: &'a Cursors<'b>, kind: Kind, c: usize) -> &'a Cursor<'b>
-    requires { (t : Trace) × (have : ℕ → ℕ) × AreBehind t have cursors.now × (c < length t.channels) }
+    requires kind { kind ≢ Kind.Reset }
+    requires stands { (t : Trace) × (have : ℕ → ℕ) × AreBehind t have cursors.now × (c < length t.channels) }
     ensures { (t : Trace) (have : ℕ → ℕ) → AreBehind t have cursors.now → c < length t.channels → IsBehind t kind c (have c) result.now }
 {
     match kind {
         Kind::Start => &cursors.starts[c],
         Kind::End => &cursors.ends[c],
+        Kind::Reset => unreachable!(),
     }
 }
 

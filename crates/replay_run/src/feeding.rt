@@ -21,7 +21,7 @@ use chan_replayer::{Feed, Needs};
 use std::alloc::Global;
 use trace_code::Cursor;
 use trace_code::trace_model::{Channel, Channels, Dir, Kind, names, row_over};
-use trace_code::vidi_bits::{Items, Memory, Numbers};
+use trace_code::vidi_bits::{Memory, Numbers};
 
 /// The mask with the bit of a channel up or down.
 fn with_bit_as(mask: u128, channel: usize, up: bool) -> u128
@@ -33,32 +33,6 @@ fn with_bit_as(mask: u128, channel: usize, up: bool) -> u128
         mask | 1 << channel
     } else {
         mask & !(1 << channel)
-    }
-}
-
-/// Writes the clock of the event at which a cursor stands, one number a channel, from place `at` on.
-fn copy_needs(cursor: &Cursor, channels: usize, needs: &mut [u32], at: usize)
-    requires stands { (t : Trace) × (j : ℕ) × Stands cursor.now t j × (channels ≡ length t.channels) }
-    requires room { at + channels ≤ length needs.old }
-    ensures here { (t : Trace) (j p : ℕ) (packet : Packet) → Stands cursor.now t j → channels ≡ length t.channels
-        → IsNth (does cursor.now.kind cursor.now.channel) t.packets j p packet
-        → (d : ℕ) → d < channels → slice_index needs.new (at + d) ≡ clock t.packets p d }
-    ensures others { (i : ℕ) → (i < at) ⊎ (at + channels ≤ i) → slice_index needs.new i ≡ slice_index needs.old i }
-{
-    for d in 0..channels {
-        needs[at + d] = cursor.need(d);
-    }
-}
-
-/// Writes again from place `at` on as many numbers as there are channels, which stand from place `from` on and end before it.
-fn repeat_needs(needs: &mut [u32], from: usize, at: usize, channels: usize)
-    requires apart { from + channels ≤ at }
-    requires room { at + channels ≤ length needs.old }
-    ensures here { (d : ℕ) → d < channels → slice_index needs.new (at + d) ≡ slice_index needs.old (from + d) }
-    ensures others { (i : ℕ) → (i < at) ⊎ (at + channels ≤ i) → slice_index needs.new i ≡ slice_index needs.old i }
-{
-    for d in 0..channels {
-        needs[at + d] = needs[from + d];
     }
 }
 
@@ -78,38 +52,6 @@ fn copy_content(cursor: &Cursor, ports: usize, contents: &mut [u128], at: usize)
     }
 }
 
-/// Writes the clock of the event at which a cursor stands as that of channel `c`.
-fn write_needs(cursor: &Cursor, channels: usize, c: usize, needs: &mut Needs)
-    requires stands { (t : Trace) × (j : ℕ) × Stands cursor.now t j × (channels ≡ length t.channels) }
-    requires channel { c < channels }
-    requires few { channels ≤ 128 }
-    requires places { length needs.old ≡ channels * channels }
-    ensures here { (t : Trace) (j p : ℕ) (packet : Packet) → Stands cursor.now t j → channels ≡ length t.channels
-        → IsNth (does cursor.now.kind cursor.now.channel) t.packets j p packet
-        → (d : ℕ) → d < channels → slice_index needs.new (channels * c + d) ≡ clock t.packets p d }
-    ensures others { (d e : ℕ) → d ≢ c → e < channels
-        → slice_index needs.new (channels * d + e) ≡ slice_index needs.old (channels * d + e) }
-    ensures places { length needs.new ≡ channels * channels }
-{
-    copy_needs(cursor, channels, needs.as_mut_slice(), channels * c);
-}
-
-/// Writes the clock of the channel before channel `c` as that of channel `c`.
-fn repeat_clock(channels: usize, c: usize, needs: &mut Needs)
-    requires before { 1 ≤ c }
-    requires channel { c < channels }
-    requires few { channels ≤ 128 }
-    requires places { length needs.old ≡ channels * channels }
-    ensures here { (b d : ℕ) → b + 1 ≡ c → d < channels
-        → slice_index needs.new (channels * c + d) ≡ slice_index needs.old (channels * b + d) }
-    ensures others { (d e : ℕ) → d ≢ c → e < channels
-        → slice_index needs.new (channels * d + e) ≡ slice_index needs.old (channels * d + e) }
-    ensures places { length needs.new ≡ channels * channels }
-{
-    let before = channels * (c - 1);
-    repeat_needs(needs.as_mut_slice(), before, channels * c, channels);
-}
-
 /// Writes the clock of the event at which a cursor stands as that of channel `c`. Where it is alike, it is that of the channel before.
 fn feed_clock(cursor: &Cursor, alike: bool, channels: usize, c: usize, needs: &mut Needs)
     requires stands { (t : Trace) × (j : ℕ) × Stands cursor.now t j × (channels ≡ length t.channels) }
@@ -125,9 +67,14 @@ fn feed_clock(cursor: &Cursor, alike: bool, channels: usize, c: usize, needs: &m
     ensures places { length needs.new ≡ channels * channels }
 {
     if alike {
-        repeat_clock(channels, c, needs);
+        needs.share(c, c - 1);
     } else {
-        write_needs(cursor, channels, c, needs);
+        let number = |d: usize| -> u32
+            requires { (t : Trace) × (j : ℕ) × Stands cursor.now t j × (d < length t.channels) }
+            ensures { (t : Trace) (j p : ℕ) (packet : Packet) → Stands cursor.entry.now t j → d < length t.channels
+                → IsNth (does cursor.entry.now.kind cursor.entry.now.channel) t.packets j p packet → result ≡ clock t.packets p d }
+        { cursor.need(d) };
+        needs.write(c, number);
     }
 }
 
@@ -308,11 +255,10 @@ fn feed_over(alloc: Global, channels: &Channels) -> Result<Feed, Memory>
     ensures { IfOk result (λ feed. IsFeedOver channels.now feed) }
 {
     let row = row_over(alloc, channels)?;
-    let count = channels.len();
-    let needs = vec![in alloc; 0u32; count * count]?;
+    let needs = Needs::new(alloc, channels.len())?;
     Ok(Feed {
         more: 0,
-        needs: Items::from_vec(needs),
+        needs,
         contents: row.contents,
     })
 }

@@ -18,7 +18,7 @@ mod turn;
 pub use chan_replayer;
 pub use chan_replayer::run_model::{Await, Awaits, Held, Helds};
 pub use chan_replayer::{
-    Feed, Needs, ReplayMachines, ReplayShell, chan_map, chan_monitor, net_design, run_model,
+    Feed, Needs, ReplayMachines, ReplayShell, chan_map, chan_monitor, run_model,
 };
 pub use laws::one_outcome;
 pub use outcome::{ReplayOutcome, Replayed};

@@ -1,6 +1,6 @@
 //! The lists of *End of replay*.
 
-ghost use Rattle.std.specs.Prelude.{◌≡◌, ◌+◌, ◌<◌, ◌≤◌, ◌++◌, [], ℕ, not, List, IfOk, length, slice_index, vec_len, vec_capacity};
+ghost use Rattle.std.specs.Prelude.{◌≡◌, ◌≢◌, ◌+◌, ◌<◌, ◌≤◌, ◌++◌, [], ℕ, not, List, IfOk, length, slice_index, vec_len, vec_capacity};
 ghost use Rattle.std.specs.List.{filter, flat_map};
 ghost use Rattle.trace_code.specs.trace_model.declared.event.Event.{Event as OneEvent};
 ghost use Rattle.trace_code.specs.trace_model.declared.packet.Packet.{Packet};
@@ -15,11 +15,11 @@ ghost use Rattle.chan_replayer.specs.run_model.Replay.{done};
 ghost use Rattle.replay_run.specs.Behind.{AreBehind, IsBehind};
 ghost use Rattle.replay_run.specs.Lists.{AreSpare, HasRoom, IsKept};
 
-use crate::cursors::{Cursors, cursor_of, is_in_flight};
+use crate::cursors::{Cursors, cursor_of};
 use chan_replayer::run_model::{Await, Awaits, Held, Helds};
 use std::alloc::Global;
 use trace_code::Cursor;
-use trace_code::trace_model::{Channel, Channels, Dir, Event, Events, Kind, Row};
+use trace_code::trace_model::{Channel, Channels, Dir, Event, Events, Kind, Row, is_in_flight};
 use trace_code::vec_clock::Clock;
 use trace_code::vidi_bits::{Items, Memory};
 
@@ -113,6 +113,7 @@ fn put_event(
     kind: Kind,
     c: usize,
 )
+    requires kind { kind ≢ Kind.Reset }
     requires stands { (t : Trace) × (before : ℕ → ℕ) × AreBehind t before cursors.now × (t.channels ≡ channels.now) }
     requires channel { c < length channels.now }
     requires have { length have.now ≡ length channels.now }
@@ -132,6 +133,7 @@ fn put_event(
             channel: c,
             kind,
             index: have.get(c),
+            epoch: 0,
         };
         put_held(out, event, Items::from_vec(list));
     }
@@ -207,8 +209,10 @@ fn list_held(
 /// The next event of channel `c`: a start while it is idle, else the completion.
 fn next_event(have: &Clock, last: &Row, c: usize) -> Event
     requires { c < length have.now }
+    ensures kind { result.kind ≢ Kind.Reset }
     ensures channel { result.channel ≡ c }
     ensures index { result.index ≡ slice_index have.now c }
+    ensures epoch { result.epoch ≡ 0 }
     ensures next { (n : ℕ) (rows : List OneRow) → IsKept n rows have.now last.now → c < n → result ≡ next_event rows c }
 {
     let kind = if is_in_flight(last, c) {
@@ -220,13 +224,14 @@ fn next_event(have: &Clock, last: &Row, c: usize) -> Event
         channel: c,
         kind,
         index: have.get(c),
+        epoch: 0,
     }
 }
 
 fn same_event(a: Event, b: Event) -> bool
     ensures { result ≡ same_event a b }
 {
-    a.channel == b.channel && a.kind == b.kind && a.index == b.index
+    a.epoch == b.epoch && a.channel == b.channel && a.kind == b.kind && a.index == b.index
 }
 
 /// Whether an event is one of those held back.

@@ -1,67 +1,32 @@
 //! The trace that a replay writes.
 
-ghost use Rattle.std.specs.Prelude.{◌≡◌, ◌+◌, ◌-◌, ◌^◌, ◌≤◌, ◌<◌, ◌++◌, ◌∷◌, [], ℕ, List, IfOk, if◌then◌else◌, length, take};
-ghost use Rattle.trace_code.specs.trace_model.declared.packet.TheConstants.{LONGEST_PACKET};
+ghost use Rattle.std.specs.Prelude.{◌≡◌, ◌+◌, ◌-◌, ◌^◌, ◌≤◌, ◌<◌, ◌++◌, ◌∷◌, [], ℕ, List, IfOk, length, take};
+ghost use Rattle.trace_code.specs.trace_model.declared.packet.TheConstants.{MOST_CYCLES};
 ghost use Rattle.trace_code.specs.trace_model.declared.channel.Channel.{Channel as OneChannel};
 ghost use Rattle.trace_code.specs.trace_model.declared.row.Row.{Row as OneRow};
-ghost use Rattle.trace_code.specs.trace_model.Channel.{content_bytes, IsTable};
-ghost use Rattle.trace_code.specs.trace_model.Recording.{has_event, trace_of};
+ghost use Rattle.trace_code.specs.trace_model.Channel.{IsTable};
+ghost use Rattle.trace_code.specs.trace_model.Length.{longest_packet};
+ghost use Rattle.trace_code.specs.trace_model.Recording.{trace_of};
 ghost use Rattle.trace_code.specs.trace_model.Row.{IsOver};
 ghost use Rattle.trace_code.specs.Encoding.{encode, end_mark, row_bytes};
 ghost use Rattle.replay_run.specs.declared.output.TheConstants.{END_LEN};
-ghost use Rattle.replay_run.specs.Output.{longest, HasRoomFor, IsWritten};
+ghost use Rattle.replay_run.specs.Output.{HasRoomFor, IsWritten};
 
 use std::alloc::Global;
-use trace_code::trace_model::{Channel, Channels, Row};
+use trace_code::trace_model::{Channels, Row, longest_packet, packets_in};
 use trace_code::vidi_bits::{Bytes, Items, Memory};
 use trace_code::{end_mark, header_bytes, write_packet};
 
 /// The bytes of an encoded trace's end.
 const END_LEN: usize = 5;
 
-/// The bytes of a channel's content.
-fn content_len(channel: &Channel) -> usize
-    requires { content_bytes channel.now ≤ LONGEST_PACKET }
-    ensures { result ≡ content_bytes channel.now }
-{
-    let mut total = 0;
-    for width in channel.widths.as_slice() {
-        total += usize::from(*width).div_ceil(8);
-    }
-    total
-}
-
-/// The bytes of the longest packet of these channels, in which all of them start.
-fn longest_packet(channels: &[Channel]) -> usize
-    requires { IsTable channels.now }
-    ensures value { result ≡ longest channels.now }
-    ensures small { result ≤ LONGEST_PACKET }
-{
-    let mut total = 1 + 2 * channels.len().div_ceil(8);
-    for channel in channels {
-        total += content_len(channel);
-    }
-    total
-}
-
-/// How many packets a row has.
-fn packets_in(row: &Row) -> u32
-    ensures { result ≡ (if has_event row.now then 1 else 0) }
-{
-    if row.starts == 0 && row.ends == 0 {
-        0
-    } else {
-        1
-    }
-}
-
 /// Writes the packet of a row, where it has an event, behind the first `len` bytes, and gives how many there are then.
 fn write_row(row: &Row, channels: &Channels, out: &mut [u8], len: usize) -> usize
     requires table { IsTable channels.now }
     requires over { IsOver channels.now row.now }
-    requires room { len + longest channels.now ≤ length out.old }
+    requires room { len + longest_packet channels.now ≤ length out.old }
     ensures bytes { take result out.new ≡ take len out.old ++ row_bytes channels.now row.now }
-    ensures most { result ≤ len + longest channels.now }
+    ensures most { result ≤ len + longest_packet channels.now }
 {
     let written = write_packet(row, channels, &mut out[len..]);
     len + written
@@ -94,7 +59,7 @@ impl Output {
     /// The header, with room for the longest packets of so many rows and for the end. Only this call takes memory.
     pub(crate) fn new(alloc: Global, channels: &Channels, rows: u32) -> Result<Output, Memory>
         requires table { IsTable channels.now }
-        requires few { rows ≤ 50000 }
+        requires few { rows ≤ MOST_CYCLES }
         ensures written { IfOk result (λ output. IsWritten channels.now [] output) }
         ensures room { IfOk result (λ output. HasRoomFor channels.now rows output) }
     {

@@ -1,6 +1,7 @@
 //! The cycles of a replay.
 
 ghost use Rattle.std.specs.Prelude.{◌≡◌, ◌+◌, ◌≤◌, ◌<◌, ◌++◌, ◌∷◌, [], ℕ, List, length};
+ghost use Rattle.trace_code.specs.trace_model.declared.packet.TheConstants.{MOST_CYCLES};
 ghost use Rattle.trace_code.specs.trace_model.declared.row.Row.{Row as OneRow};
 ghost use Rattle.trace_code.specs.trace_model.declared.trace.Trace.{Trace};
 ghost use Rattle.trace_code.specs.trace_model.Channel.{IsTable};
@@ -47,7 +48,7 @@ pub(crate) enum Ending {
 fn keep(cursors: &mut Cursors, channels: &Channels, cells: &mut Cells)
     requires table { IsTable channels.now }
     requires behind { (t : Trace) × (have : ℕ → ℕ) × AreBehind t have cursors.old × (t.channels ≡ channels.now) }
-    requires kept { (rows : List OneRow) × (length rows < 50000) × AreKept channels.now 1 rows cells.old }
+    requires kept { (rows : List OneRow) × (length rows < MOST_CYCLES) × AreKept channels.now 1 rows cells.old }
     ensures behind { (t : Trace) (rows : List OneRow) → AreBehind t (done rows) cursors.old
         → AreBehind t (done (rows ++ cells.old.last ∷ [])) cursors.new }
     ensures fed { (t : Trace) (rows : List OneRow) → AreBehind t (done rows) cursors.old → t.channels ≡ channels.now
@@ -73,7 +74,7 @@ pub(crate) fn play<S: ReplayShell>(
 ) -> Ending
     requires table { IsTable map.now.channels }
     requires mapped { S.map shell.old ≡ map.now }
-    requires few { cycles ≤ 50000 }
+    requires few { cycles ≤ MOST_CYCLES }
     requires behind { (t : Trace) × AreBehind t none_yet cursors.old × (t.channels ≡ map.now.channels) }
     requires kept { AreKept map.now.channels cycles [] cells.old }
     requires silent { cells.old.last.valids ≡ 0 }

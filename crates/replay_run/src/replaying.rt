@@ -1,6 +1,7 @@
 //! The replay.
 
-ghost use Rattle.std.specs.Prelude.{◌≡◌, ◌≤◌, [], ℕ, List, IfOk, OnErr, length};
+ghost use Rattle.std.specs.Prelude.{◌≡◌, ◌≤◌, [], ℕ, false, List, IfOk, OnErr, length};
+ghost use Rattle.trace_code.specs.trace_model.declared.packet.TheConstants.{MOST_CYCLES};
 ghost use Rattle.trace_code.specs.trace_model.declared.row.Row.{Row as OneRow};
 ghost use Rattle.trace_code.specs.trace_model.declared.trace.Trace.{Trace};
 ghost use Rattle.trace_code.specs.trace_model.Channel.{IsTable};
@@ -32,7 +33,7 @@ use trace_code::vidi_bits::Memory;
 /// A row in which nothing is up.
 #[tactic(auto, using(crate::proofs::Silent::silent_over))]
 fn silent_row(alloc: Global, channels: &Channels) -> Result<Row, Memory>
-    ensures { IfOk result (λ row. (row.valids ≡ 0) × IsOver channels.now row) }
+    ensures { IfOk result (λ row. (row.valids ≡ 0) × IsOver channels.now row × (row.fresh ≡ false)) }
 {
     row_over(alloc, channels)
 }
@@ -40,7 +41,7 @@ fn silent_row(alloc: Global, channels: &Channels) -> Result<Row, Memory>
 /// What a replay of at most so many cycles keeps.
 fn open(alloc: Global, channels: &Channels, cursors: &Cursors, cycles: u32) -> Result<Cells, Memory>
     requires table { IsTable channels.now }
-    requires few { cycles ≤ 50000 }
+    requires few { cycles ≤ MOST_CYCLES }
     requires behind { (t : Trace) × AreBehind t none_yet cursors.now × (t.channels ≡ channels.now) }
     ensures kept { IfOk result (λ cells. AreKept channels.now cycles [] cells) }
     ensures fed { IfOk result (λ cells. (t : Trace) → AreBehind t none_yet cursors.now → t.channels ≡ channels.now
@@ -87,7 +88,7 @@ fn outcome_of(
 }
 
 /// Replays a trace on a design behind replayers: from a reset of the shell on it plays cycles until the trace has ended, a row is
-/// unstable, or `cycles` of them are used, of which there are at most 50,000. The bytes are the encoding of a trace of the map's
+/// unstable, or `cycles` of them are used, of which there are at most `MOST_CYCLES`. The bytes are the encoding of a trace of the map's
 /// channels, and the map is the shell's.
 ///
 /// Where the shell runs a design, the rows are *the replay*'s of this design, and the shell stands behind them afterwards. `Ended` exactly
@@ -103,7 +104,7 @@ pub fn replay<S: ReplayShell>(
 ) -> Result<Replayed, Memory>
     requires mapped { S.map shell.old ≡ map.now }
     requires trace { (t : Trace) × Encodes t trace.now × (t.channels ≡ map.now.channels) }
-    requires few { cycles ≤ 50000 }
+    requires few { cycles ≤ MOST_CYCLES }
     ensures replayed { IfOk result (λ answer. (t : Trace) (d : Design) (s : Values) (before : List OneRow) → Encodes t trace.now
         → S.runs shell.old d s before → IsReplayed d map.now t.packets cycles (S.runs shell.new) answer) }
     ensures memory { OnErr result (shell.new ≡ shell.old) }

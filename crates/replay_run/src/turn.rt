@@ -1,7 +1,8 @@
 //! A cycle of a replay.
 
-ghost use Rattle.std.specs.Prelude.{◌≡◌, ◌+◌, ◌<◌, ◌++◌, ◌∷◌, [], ℕ, List, None, Some};
+ghost use Rattle.std.specs.Prelude.{◌≡◌, ◌+◌, ◌<◌, ◌++◌, ◌∷◌, [], ℕ, false, List, None, Some};
 ghost use Rattle.trace_code.specs.trace_model.declared.packet.Packet.{Packet};
+ghost use Rattle.trace_code.specs.trace_model.declared.packet.TheConstants.{MOST_CYCLES};
 ghost use Rattle.trace_code.specs.trace_model.declared.row.Row.{Row as OneRow};
 ghost use Rattle.trace_code.specs.trace_model.Row.{IsOver};
 ghost use Rattle.net_design.specs.declared.design.Design.{Design};
@@ -17,7 +18,7 @@ use std::mem::swap;
 use trace_code::trace_model::{Row, unstable};
 
 /// A cycle under this feed. Gives the lowest channel on which its row is unstable, and then the cycle isn't committed; else its row
-/// becomes the last one.
+/// becomes the last one. No row is fresh.
 pub(crate) fn play_cycle<S: ReplayShell>(
     shell: &mut S,
     map: &Map,
@@ -27,9 +28,10 @@ pub(crate) fn play_cycle<S: ReplayShell>(
 ) -> Option<usize>
     requires mapped { S.map shell.old ≡ map.now }
     requires feed { IsFeedOver map.now.channels feed.now }
-    requires few { S.cycles shell.old < 50000 }
+    requires few { S.cycles shell.old < MOST_CYCLES }
     requires places { HasPlaces map.now.channels row.old }
     requires over { IsOver map.now.channels last.old }
+    requires fresh { (row.old.fresh ≡ false) × (last.old.fresh ≡ false) }
     ensures on { result ≡ None → (d : Design) (packets : List Packet) (rows : List OneRow) → IsFeed map.now.channels packets (done rows) feed.now
         → Plays d map.now packets (S.runs shell.old) last.old rows
         → Plays d map.now packets (S.runs shell.new) last.new (rows ++ last.new ∷ []) }
@@ -38,6 +40,7 @@ pub(crate) fn play_cycle<S: ReplayShell>(
         → StopsBefore d map.now (IsReplayRow map.now.channels packets) rows c × Plays d map.now packets (S.runs shell.new) last.new rows }
     ensures over { IsOver map.now.channels last.new }
     ensures places { HasPlaces map.now.channels row.new }
+    ensures fresh { (row.new.fresh ≡ false) × (last.new.fresh ≡ false) }
     ensures map { S.map shell.new ≡ S.map shell.old }
     ensures cycles { result ≡ None → S.cycles shell.new ≡ S.cycles shell.old + 1 }
 {

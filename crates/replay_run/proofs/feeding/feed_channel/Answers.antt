@@ -3,10 +3,14 @@ use Rattle.trace_code.specs.trace_model.declared.channel.Dir.{Dir}
 use Rattle.trace_code.specs.trace_model.declared.event.Kind.{Kind}
 use Rattle.chan_replayer.specs.Feed.{kind_of, IsFeedAt}
 use Rattle.replay_run.specs.Behind.{IsBehind}
+use Rattle.replay_run.proofs.Forward.{controlled-kind}
 use Rattle.replay_run.proofs.feeding.feed_channel.Goals as goal
 
-pub cursor_of-cursor-requires : goal.cursor_of-cursor-requires
-cursor_of-cursor-requires c =
+pub cursor_of-cursor-requires-clause-kind : goal.cursor_of-cursor-requires-clause-kind
+cursor_of-cursor-requires-clause-kind c = controlled-kind c.args.dir c.kind_of.result c.kind_of.ensures
+
+pub cursor_of-cursor-requires-clause-stands : goal.cursor_of-cursor-requires-clause-stands
+cursor_of-cursor-requires-clause-stands c =
     let s = c.requires.stands in
     let e = ap length s.3 in
     let l = c.requires.channel in

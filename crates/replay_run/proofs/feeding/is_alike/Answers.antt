@@ -4,10 +4,14 @@ use Rattle.trace_code.specs.trace_model.declared.event.Kind.{Kind}
 use Rattle.chan_replayer.specs.Feed.{kind_of}
 use Rattle.replay_run.specs.Behind.{IsBehind}
 use Rattle.replay_run.proofs.Fills.{clock-before}
+use Rattle.replay_run.proofs.Forward.{controlled-kind}
 use Rattle.replay_run.proofs.feeding.is_alike.Goals as goal
 
-pub cursor_of-requires : goal.cursor_of-requires
-cursor_of-requires c =
+pub cursor_of-requires-clause-kind : goal.cursor_of-requires-clause-kind
+cursor_of-requires-clause-kind c = controlled-kind _ c.kind_of.result c.kind_of.ensures
+
+pub cursor_of-requires-clause-stands : goal.cursor_of-requires-clause-stands
+cursor_of-requires-clause-stands c =
     let s = c.requires.stands in
     let e = ap length s.3 in
     let l = c.requires.channel in

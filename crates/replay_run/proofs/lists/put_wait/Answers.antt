@@ -15,7 +15,7 @@ pub returns-then-not-is_held-clause-items : goal.returns-then-not-is_held-clause
 returns-then-not-is_held-clause-items c t rows are kept l =
     let e = c.next_event-event in
     let b = c.cursor_of.ensures t (done rows) are l in
-    let known = event-known e.result c.args.c (done rows c.args.c) e.ensures.channel (e.ensures.index ∙ kept.counts c.args.c l) in
+    let known = event-known e.result c.args.c (done rows c.args.c) e.ensures.channel (e.ensures.index ∙ kept.counts c.args.c l) e.ensures.epoch in
     wait-put t rows c.args.c e.result c.cursor_of.result.now c.at_end.result c.args.helds.now c.args.out.now.items b known
     (e.ensures.next _ rows kept l) (c.at_end.ensures t) c.push_reserved.new.self.items c.if-not-at_end.true
     (sym c.is_held.ensures ∙ c.if-not-is_held.true) c.push_reserved.ensures.items
@@ -24,7 +24,7 @@ pub returns-else-not-at_end-clause-items : goal.returns-else-not-at_end-clause-i
 returns-else-not-at_end-clause-items c t rows are kept l =
     let e = c.next_event-event in
     let b = c.cursor_of.ensures t (done rows) are l in
-    let known = event-known e.result c.args.c (done rows c.args.c) e.ensures.channel (e.ensures.index ∙ kept.counts c.args.c l) in
+    let known = event-known e.result c.args.c (done rows c.args.c) e.ensures.channel (e.ensures.index ∙ kept.counts c.args.c l) e.ensures.epoch in
     elim c.else-not-at_end.branch [
       | else-not-at_end-via-then-not-at_end+else-not-is_held w ↦ wait-held t rows c.args.c e.result c.cursor_of.result.now c.at_end.result
           c.args.helds.now c.args.out.now.items b known (e.ensures.next _ rows kept l) (c.at_end.ensures t) w.if-not-at_end.true

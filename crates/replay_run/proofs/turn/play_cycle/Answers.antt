@@ -13,7 +13,7 @@ unstable-requires-clause-now g c = subst (λ (m : Map). IsOver m.channels c.driv
 pub returns-in-Some-clause-stops : goal.returns-in-Some-clause-stops
 returns-in-Some-clause-stops g c k same d packets rows is at = (
   stops d c.args.map.now (g.S.ReplayShell.map c.args.shell.now) packets (g.S.ReplayShell.runs c.args.shell.now) rows c.args.last.now
-      c.drive.new.row c.args.feed.now c.requires.mapped is at (c.drive.ensures.row d) k
+      c.drive.new.row c.args.feed.now c.requires.mapped is at (c.drive.ensures.row d) (c.drive.ensures.fresh ∙ c.requires.fresh.0) k
       (subst (λ (o : Option ℕ). IsLowestUnstable c.args.map.now.channels c.args.last.now c.drive.new.row o) same c.in-Some.ensures),
   record {
     replay = at.replay;
@@ -31,7 +31,7 @@ returns-in-Some-clause-places g c =
 pub returns-clause-on : goal.returns-clause-on
 returns-clause-on g c same d packets rows is at =
     next d c.args.map.now (g.S.ReplayShell.map c.args.shell.now) packets (g.S.ReplayShell.runs c.args.shell.now) rows c.args.last.now
-    c.drive.new.row c.args.feed.now c.requires.mapped is at (c.drive.ensures.row d) c.swap.new.y c.swap.ensures.y_after
+    c.drive.new.row c.args.feed.now c.requires.mapped is at (c.drive.ensures.row d) (c.drive.ensures.fresh ∙ c.requires.fresh.0) c.swap.new.y c.swap.ensures.y_after
     (g.S.ReplayShell.runs c.clock.new.self) (g.S.ReplayShell.map c.drive.new.self) (c.drive.ensures.map ∙ c.requires.mapped)
     (λ s on. c.clock.ensures.next d s rows c.drive.new.row (c.drive.ensures.runs d s rows on) c.drive.ensures.driven) c.in_default.ensures
 
@@ -43,3 +43,12 @@ pub returns-clause-places : goal.returns-clause-places
 returns-clause-places g c =
     ap (λ (r : Row). length r.contents) c.swap.ensures.x_after
     ∙ sym (fit-length (all_widths c.args.map.now.channels) c.args.last.now.contents c.requires.over.contents)
+
+pub returns-in-Some-clause-fresh : goal.returns-in-Some-clause-fresh
+returns-in-Some-clause-fresh g c = (c.drive.ensures.fresh ∙ c.requires.fresh.0, c.requires.fresh.1)
+
+pub returns-clause-fresh : goal.returns-clause-fresh
+returns-clause-fresh g c = (
+  ap (λ (r : Row). r.fresh) c.swap.ensures.x_after ∙ c.requires.fresh.1,
+  ap (λ (r : Row). r.fresh) c.swap.ensures.y_after ∙ c.drive.ensures.fresh ∙ c.requires.fresh.0,
+)
