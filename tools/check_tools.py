@@ -15,6 +15,7 @@ import subprocess
 import sys
 import tempfile
 
+import check_field
 import tool_kit
 
 TOOLS = tool_kit.HERE
@@ -184,6 +185,7 @@ def check_same(checker):
         found = example(name, "found.v") if name in FOUND else os.path.join(CASES, f"{name}.v")
         plan = example(name, "map") if name in FOUND else os.path.join(CASES, f"{name}.map")
         said, _ = checker.run("lower", "--scripts", "2", "--cycles", "150", "--prove-same", plan, name, "same.v", found)
+        said = "\n".join(line for line in said.splitlines() if not line.startswith("lower: Yosys warns: "))
         checker.case(f"same transfers of {name}", said.splitlines()[-1:],
                      [line for line in said.splitlines() if SAME.fullmatch(line)] or ["same"])
     checker.write("turned.map", tool_kit.text_of(example("axi_ram", "map")).replace("aresetn 0", "aresetn 1"))
@@ -254,7 +256,7 @@ def check_capture(checker):
             ("an x", "\n1a\n", "\nxa\n", "capture: bad.vcd time 25: a_v is x outside reset"),
             ("a lost port", "$var wire 1 b a_r $end\n", "",
              "capture: bad.vcd: scope bench.dut has no a_r; dump the ports of the design there, or mend the map"),
-            ("a reset again", "#40\n", "#40\n1r\n", "capture: bad.vcd time 45: rst is active again; cut the waves before it with --cycles"),
+            ("a reset again", "#40\n", "#40\n1r\n", "capture: bad.vcd time 45: rst is active again; cut the waves before it with --cycles 3, or begin behind it with --from 2"),
             ("single bits", "$var wire 8 c a_d [7:0] $end", "$var wire 1 c a_d [0] $end\n$var wire 1 g a_d [1] $end",
              "capture: bad.vcd: a_d is dumped bit by bit; dump it as a vector"),
             ("no VCD", "$enddefinitions", "$end", "capture: bad.vcd: no VCD: no $enddefinitions")):
@@ -280,7 +282,7 @@ def check_capture_range(checker):
     for name, valid, note in (("a valid", "1a", "capture: cycles before the reset, 2 of them, are left out\n"), ("no valid", "0a", "")):
         checker.write("early.vcd", waves.replace("#0\n0!\n1r\n", early.replace("1a", valid)))
         said = checker.run("capture", "early.vcd", "bench.dut", "two_words.map")
-        lines = tool_kit.text_of(os.path.join(CASES, "two_words.script")).replace("capture: ", note + "capture: ")
+        lines = tool_kit.text_of(os.path.join(CASES, "two_words.script")).replace("capture: ", note + "capture: ", 1)
         checker.case(f"capture of {name} before the reset", said, (lines, 0))
     for cycles in ("-1", "0", "50001"):
         checker.refused(f"capture of {cycles} cycles", ["capture", "two_words.vcd", "bench.dut", "two_words.map", "-o", "out", "--cycles", cycles],
@@ -380,7 +382,7 @@ def main():
     checker = Checker(os.path.abspath(sys.argv[1]))
     try:
         for check in (check_left_out, check_lower, check_words, check_same, check_make_map, check_capture, check_capture_range,
-                      check_benches, check_show, check_explain, check_quick_build):
+                      check_benches, check_show, check_explain, check_quick_build, *check_field.CHECKS):
             check(checker)
     finally:
         shutil.rmtree(checker.folder)

@@ -9,7 +9,8 @@ import tempfile
 
 HERE = os.path.dirname(os.path.abspath(__file__))
 EXAMPLES = os.path.join(HERE, "..", "examples")
-PACKAGES = {"yosys": "yosys", "iverilog": "iverilog", "vvp": "iverilog"}
+PACKAGES = {"yosys": "yosys", "iverilog": "iverilog", "vvp": "iverilog", "verilator": "verilator"}
+WARNING = re.compile(r"^(?:(/.*?):(\d+): )?Warning: (.*)$", re.M)
 
 
 class Problem(Exception):
@@ -155,6 +156,13 @@ def yosys(commands, folder):
     return done.stdout + done.stderr
 
 
+def warnings_of(said):
+    """The warnings in what Yosys said, each once, in order: (place or nothing, words)."""
+    found = ((f"{os.path.relpath(path)} line {line}: " if path else "", words.replace("`\\", "`").replace("\\", ""))
+             for path, line, words in WARNING.findall(said))
+    return list(dict.fromkeys(found))
+
+
 def quoted(path):
     """A path as a word of a Yosys command."""
     if '"' in path or "\n" in path:
@@ -227,6 +235,11 @@ class Transaction:
         self.start, self.end, self.content = start, None, content
 
 
+def lines_of_row(cycle, started, ended):
+    """The lines of `vidi run` of a row: its starts with contents by name, and the names of those that end."""
+    return [" ".join(map(str, (cycle, "start", name, *content))) for name, content in started.items()] + [f"{cycle} end {name}" for name in ended]
+
+
 def transactions_of(events):
     """For each channel its transactions, in order."""
     found = {}
@@ -238,6 +251,17 @@ def transactions_of(events):
         else:
             raise Problem(f"{name} ends at {time} and hasn't started")
     return found
+
+
+def add_verbose(parser):
+    """The word that has a tool say what it is at, as it does on a terminal."""
+    parser.add_argument("-v", "--verbose", action="store_true", default=sys.stderr.isatty(), help="say on standard error what it is at")
+
+
+def at_work(options, line):
+    """Says what a tool is at, where that is wanted."""
+    if options.verbose:
+        print(f"{os.path.basename(sys.argv[0])}: {line} ..", file=sys.stderr, flush=True)
 
 
 def parse_options(parser):
