@@ -1,10 +1,12 @@
 #!/usr/bin/env python3
 """Plays the cases of the tools: each line that a tool must print was made by hand, or by Icarus on a design as it was found.
 
-    check_tools.py VIDI
+    check_tools.py VIDI [--verilator] [--only NAME]
 
-Without Yosys or Icarus the cases that want them are skipped, with a line that says how many.
+Without Yosys, Icarus or Verilator the cases that want them are skipped, with a line that says how many. With --verilator, which .ci/run doesn't
+give, benches of all examples are played in Verilator; that takes minutes. --only plays the checks whose name has NAME in it.
 """
+import argparse
 import importlib.machinery
 import importlib.util
 import os
@@ -16,6 +18,7 @@ import sys
 import tempfile
 
 import check_field
+import check_replays
 import tool_kit
 
 TOOLS = tool_kit.HERE
@@ -51,7 +54,8 @@ REFUSED = [
 class Checker:
     """Counts the cases, and keeps what was wrong."""
 
-    def __init__(self, vidi):
+    def __init__(self, vidi, is_long=False):
+        self.is_long = is_long
         self.vidi, self.played, self.skipped, self.wrong = vidi, 0, {}, []
         self.folder = tempfile.mkdtemp()
 
@@ -377,12 +381,18 @@ def check_quick_build(checker):
 
 def main():
     """Plays all cases."""
-    if len(sys.argv) != 2 or not os.access(sys.argv[1], os.X_OK):
+    parser = argparse.ArgumentParser(description=__doc__, formatter_class=argparse.RawDescriptionHelpFormatter)
+    parser.add_argument("vidi", metavar="VIDI", help="the program")
+    parser.add_argument("--verilator", action="store_true", help="play benches of all examples in Verilator")
+    parser.add_argument("--only", default="", metavar="NAME", help="the checks whose name has this in it")
+    options = tool_kit.parse_options(parser)
+    if not os.access(options.vidi, os.X_OK):
         sys.exit("check_tools.py: wants the program vidi")
-    checker = Checker(os.path.abspath(sys.argv[1]))
+    checker = Checker(os.path.abspath(options.vidi), options.verilator)
+    checks = (check_left_out, check_lower, check_words, check_same, check_make_map, check_capture, check_capture_range, check_benches, check_show,
+              check_explain, check_quick_build, *check_field.CHECKS, *check_replays.CHECKS)
     try:
-        for check in (check_left_out, check_lower, check_words, check_same, check_make_map, check_capture, check_capture_range,
-                      check_benches, check_show, check_explain, check_quick_build, *check_field.CHECKS):
+        for check in (check for check in checks if options.only in check.__name__):
             check(checker)
     finally:
         shutil.rmtree(checker.folder)

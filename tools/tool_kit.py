@@ -1,4 +1,5 @@
 """What the tools beside this file share: errors of one line, maps, waves, the lines of a run, traces, and the other programs."""
+import argparse
 import json
 import os
 import re
@@ -205,11 +206,11 @@ def elaborated(top, files, defines=(), params=(), is_sv=False):
 
 
 def events_of(text, where):
-    """The lines of a run or a dump: the events (time, kind, channel, numbers), the widths of the channels if they are said, how many
+    """The lines of a run, a dump or a bench: the events (time, kind, channel, numbers), the widths of the channels if they are said, how many
     cycles or packets there were, and the line that ends a run early, if there is one."""
     events, widths, length, ending = [], {}, None, None
     for line, words in enumerate((text.split() for text in text.split("\n")), 1):
-        if not words or words[0] == "recorded":
+        if not words or words[0] in ("recorded", "VCD", "-") or words[0].startswith("#"):  # what a simulator says beside a bench's lines
             continue
         if words[0] == "channel" and len(words) >= 4:
             widths[words[3]] = (words[2], [int(word) for word in words[4:]])
@@ -220,7 +221,7 @@ def events_of(text, where):
             length = int(words[1])
         elif words[0] == "vidi:":
             ending = " ".join(words)
-            length = int(words[-1]) if words[1:2] == ["unstable"] else length
+            length = int(words[-1]) if words[1:2] == ["unstable"] and length is None else length
         else:
             raise Problem(f"{where} line {line}: no line of vidi run or vidi dump: {' '.join(words)[:60]}")
     if length is None:
@@ -251,6 +252,14 @@ def transactions_of(events):
         else:
             raise Problem(f"{name} ends at {time} and hasn't started")
     return found
+
+
+def name_and_value(word):
+    """The two sides of NAME=VALUE."""
+    name, equals, value = word.partition("=")
+    if not equals or not name:
+        raise argparse.ArgumentTypeError(f"{word} isn't NAME=VALUE")
+    return name, value
 
 
 def add_verbose(parser):
