@@ -166,4 +166,116 @@ def check_gaps(checker):
     checker.case("version 2, the cycles of packets", trace_kit.read(bytes.fromhex(PASS_GAPS)).cycles(), [7, 8, 11])
 
 
-CHECKS = (check_benches, check_gaps, check_in_verilator)
+# Designs with a planted bug, which BUG brings in: whether a replay of the buggy design's trace on it shows it again, and on the good one.
+PLANTED = {"sums": ("data", 0, 1), "slice": ("handshake", 0, 0), "merge": ("race", 2, 2)}
+
+
+def waves_of(checker, name, simulator, is_buggy=True):
+    """What the bench of a planted design prints in a simulator; its waves are in bench.vcd. Gives the scope of the design too."""
+    sources = [os.path.join(CASES, f"{name}_bench.v"), os.path.join(CASES, f"{name}.v")]
+    flags = ["-DBUG"] * is_buggy
+    if simulator == "icarus":
+        words, run, scope = ["iverilog", "-g2005", *flags, "-o", "planted", *sources], ["vvp", "-n", "planted"], "bench.dut"
+    else:
+        words = ["verilator", "--binary", "--timing", "--trace", "-Wno-fatal", "-Wno-lint", *flags, "--top-module", "bench", "-MAKEFLAGS", QUICK,
+                 "--Mdir", "planted_built", "-o", "planted", *sources]
+        run, scope = ["planted_built/planted"], "TOP.bench.dut"
+    subprocess.run(words, cwd=checker.folder, capture_output=True, check=True)
+    said = subprocess.run(run, cwd=checker.folder, capture_output=True, text=True, check=True).stdout
+    return "".join(line + "\n" for line in said.splitlines() if re.match(r"\d+ \w+ \d+$", line)), scope
+
+
+def lower_planted(checker, name):
+    """The planted design with and without its bug, as texts of the subset, and its map."""
+    for out, flags in (("bug.v", ["-D", "BUG"]), ("good.v", [])):
+        checker.run("lower", *flags, name, out, os.path.join(CASES, f"{name}.v"))
+    return os.path.join(CASES, f"{name}.map")
+
+
+def bring_in(checker, name, simulator):
+    """Captures the failure of a planted design from a simulator: Vidi's run has the transfers that the bench printed. Gives script and trace."""
+    plan = lower_planted(checker, name)
+    printed, scope = waves_of(checker, name, simulator)
+    checker.case(f"{name} in {simulator} has transfers", len(printed.splitlines()) > 4, True)
+    said, status = checker.run("capture", "bench.vcd", scope, plan, "-o", "seen", "--trace", "seen.trace", "--check", "bug.v")
+    checker.case(f"capture of {name} from {simulator}", (said.splitlines()[0].split()[0], status), ("same", 0))
+    lines = [line for line in checker.run("vidi", "run", "bug.v", plan, "seen")[0].splitlines() if not line.startswith(("cycles", "vidi:"))]
+    found = tool_kit.transactions_of([(int(line.split()[0]), *line.split()[1:3], [int(word) for word in line.split()[3:]]) for line in lines])
+    ends = [f"{one.end} {channel} {one.content[0]}" for channel, ones in found.items() for one in ones if one.end is not None]
+    cycles = int(tool_kit.text_of(os.path.join(checker.folder, "seen")).split()[1])
+    theirs = [line for line in printed.splitlines() if int(line.split()[0]) < cycles - (name == "slice")]
+    checker.case(f"the transfers of {name} in {simulator}", sorted(ends), sorted(theirs))
+    return plan, tool_kit.text_of(os.path.join(checker.folder, "seen")), bytes_of(checker, "seen.trace")
+
+
+def statuses(checker, plan, *words):
+    """What `again` answers of the design with its bug and without it."""
+    return tuple(checker.run("again", text, plan, *words)[1] for text in ("bug.v", "good.v"))
+
+
+def check_planted(checker):
+    """Data, a handshake and a race that are wrong: brought in from Icarus and from Verilator, they come again by the commands that the table of
+    docs/TOOLS.md names, and in Icarus on the design as it stands."""
+    if not checker.has("planted bugs", "iverilog", "yosys"):
+        return
+    for name, (kind, bug, good) in PLANTED.items():
+        plan, script, trace = bring_in(checker, name, "icarus")
+        source, is_broken = os.path.join(CASES, f"{name}.v"), kind == "handshake"
+        checker.case(f"again of {name} by its trace", statuses(checker, plan, "seen.trace"), (bug, good))
+        checker.case(f"again of {name} by its script", statuses(checker, plan, "seen.trace", "--script", "seen"), (0, 0 if is_broken else 1))
+        checker.case(f"again of {name} by a line", statuses(checker, plan, "--script", "seen", "--until", "unstable"), (0, 1) if is_broken else (1, 1))
+        for way, words in (("packets", ["seen.trace", plan, "--by", "packets"]), ("cycles", ["--script", "seen", plan, "--files", source])):
+            checker.write("buggy.v", "`define BUG\n" + tool_kit.text_of(source))
+            said, written = played(checker, in_icarus, words, "buggy.v")
+            checker.case(f"{name} by {way} in Icarus", written.hex(), trace.hex()) if way == "cycles" else \
+                checker.case(f"{name} by {way} in Icarus", checker.run("vidi", "compare", "seen.trace", "bench.trace"), ("no divergence\n", 0))
+            checker.case(f"{name} by {way} in Icarus, a broken handshake", "vidi: unstable m cycle" in said, is_broken)
+            said, _ = played(checker, in_icarus, words, source)
+            checker.case(f"{name} without its bug, by {way} in Icarus", "# differs" in said or "# short" in said, kind != "handshake" and way == "packets")
+        if checker.has(f"{name} from Verilator", "verilator", "g++", "make"):
+            checker.case(f"{name} from Verilator is the same", bring_in(checker, name, "verilator"), (plan, script, trace))
+
+
+def check_again_words(checker):
+    """What `again` says."""
+    if not checker.has("the words of again", "iverilog", "yosys"):
+        return
+    plan, *_ = bring_in(checker, "slice", "icarus")
+    checker.case("again of a trace that ends in flight", checker.run("again", "good.v", plan, "seen.trace"), (
+        "the failure is there: it comes as recorded\nthe trace ends while m waits: a handshake that broke then isn't in it; its script shows that, with "
+        "--until unstable\n", 0))
+    checker.case("again of a run", checker.run("again", "bug.v", plan, "--script", "seen", "--until", "unstable m"),
+                 ("the failure is there: vidi: unstable m cycle 13\n", 0))
+    checker.case("again of a good run", checker.run("again", "good.v", plan, "--script", "seen", "--until", "unstable m"),
+                 ("the failure isn't there: no line of the run has unstable m; it ends with cycles 14\n", 1))
+    checker.case("again of no design", checker.run("again", "none.v", plan, "seen.trace"), ("again: none.v: No such file or directory\n", 2))
+    checker.case("again without words", checker.run("again", "good.v", plan), ("again: wants TRACE, or --script SCRIPT with --until TEXT\n", 2))
+    checker.case("again of another design", checker.run("again", plan, plan, "seen.trace"), ("something else: vidi: refused design: E2 item line 1\n", 2))
+
+
+def check_shrink(checker):
+    """A script with one send too many and steps that do nothing is left with the sends that break a FIFO's word; a design that breaks where a
+    gate is down wants a plan of stalls."""
+    checker.write("flick.v", "module flick(input clk, input a_v, output a_r, input [3:0] a_d, output reg b_v, input b_r, output reg [3:0] b_d);\n"
+                  "assign a_r = 1'b1;\nalways @(posedge clk) begin\n  b_v <= b_v & ~b_r | a_v;\n  if (a_v) b_d <= a_d;\nend\nendmodule\n")
+    checker.write("flick.map", "top flick\nclock clk\nin a a_v a_r a_d\nout b b_v b_r b_d\n")
+    checker.write("long", "cycles 40\na wait 3\na send 1\na wait 4\na send 2\na send 3\na wait 1\na send 4\nb wait 5\nb take 1\nb wait 9\nb take all\n")
+    # Without waits and takes the first two sends do it: 1 shows in cycle 1, and 2 in cycle 2
+    said, status = checker.run("shrink", "flick.v", "flick.map", "long", "--until", "unstable b", "-o", "short")
+    lines = tool_kit.text_of(os.path.join(checker.folder, "short")).splitlines()
+    checker.case("shrink, the lines that are left", (lines[0], [line.split()[1] for line in lines[1:]], status), ("cycles 3", ["send", "send"], 0))
+    checker.case("shrink, what it says", re.sub(r"\d+ runs", "N runs", said), "shrink: 2 lines of 11, 3 cycles of 40, N runs\n")
+    checker.write("taken", "cycles 40\na send 1\na wait 2\na send 2\na send 3\nb take all\n")
+    checker.case("shrink's failure isn't in the run", checker.run("vidi", "run", "flick.v", "flick.map", "taken")[0].splitlines()[-1], "cycles 40")
+    said, status = checker.run("shrink", "flick.v", "flick.map", "taken", "--until", "unstable b", "-o", "short", "--stalls", "plan")
+    checker.case("shrink under plans", (status, "under the plan: capacity" in said), (0, True))
+    said = checker.run("vidi", "record", "flick.v", "flick.map", "short", "plan", "shrunk.trace")
+    checker.case("the plan that shrink found", (said[0].split()[:3], said[1]), (["vidi:", "unstable", "b"], 5))
+    checker.refused("shrink of no failure", ["shrink", "flick.v", "flick.map", "taken", "--until", "start b 9", "--plans", "3", "-o", "none"],
+                    "shrink: no line has start b 9, in the run or in 3 recordings under random plans", "none")
+    checker.write("headless", "a send 1\n")
+    checker.refused("shrink of no script", ["shrink", "flick.v", "flick.map", "headless", "--until", "x", "-o", "none"],
+                    "shrink: headless: its first line isn't cycles N", "none")
+
+
+CHECKS = (check_benches, check_gaps, check_planted, check_again_words, check_shrink, check_in_verilator)
