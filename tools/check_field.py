@@ -46,6 +46,20 @@ def check_undriven(checker):
                    "lower: vidi checks a text of {} lines ..".format(len(tool_kit.text_of(os.path.join(checker.folder, "one_low.v")).splitlines()))], 0))
 
 
+def check_ranges(checker):
+    """Vectors that are counted upwards, or not from 0: by hand, bit 1 of [1:4] is its highest, and 4'b1010 turned right is 4'b0101."""
+    if not checker.has("lower of other ranges", "yosys"):
+        return
+    checker.write("up.v", "module up(input clk, input a_v, output a_r, input [1:4] a_d, input [8:5] a_e,\n"
+                  "          output reg b_v, input b_r, output reg [1:4] b_d, output reg b_z);\nassign a_r = 1'b1;\n"
+                  "always @(posedge clk) begin\n  b_v <= a_v;\n  b_d <= {a_d[4], a_d[1:3]} ^ a_e;\n  b_z <= a_d[1] & a_e[5];\nend\nendmodule\n")
+    checker.write("up.map", "top up\nclock clk\nin a a_v a_r a_d a_e\nout b b_v b_r b_d b_z\n")
+    checker.write("up.script", "cycles 4\na send 0xa 0x1\na send 0x3 0x8\nb take all\n")
+    checker.run("lower", "up", "up_low.v", "up.v")
+    said, _ = checker.run("vidi", "run", "up_low.v", "up.map", "up.script")
+    checker.case("lower of other ranges", [line for line in said.splitlines() if "start b" in line], ["1 start b 4 1", "2 start b 1 0"])
+
+
 def hand_waves(checker):
     """Copies the waves that were made by hand. Gives their text, their map's, and the script's with its notes."""
     texts = [tool_kit.text_of(os.path.join(CASES, f"two_words.{kind}")) for kind in ("vcd", "map", "script")]
@@ -223,4 +237,4 @@ def check_explain_order(checker):
                   ["and 2 more; --most says how many are explained", "diverged"], 7))
 
 
-CHECKS = (check_undriven, check_capture_notes, check_capture_forms, check_capture_length, check_capture_run, check_make_map_more, check_explain_order)
+CHECKS = (check_undriven, check_ranges, check_capture_notes, check_capture_forms, check_capture_length, check_capture_run, check_make_map_more, check_explain_order)

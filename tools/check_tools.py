@@ -20,6 +20,7 @@ import tempfile
 import check_field
 import check_replays
 import check_said
+import check_stores
 import tool_kit
 
 TOOLS = tool_kit.HERE
@@ -391,7 +392,7 @@ def main():
         sys.exit("check_tools.py: wants the program vidi")
     checker = Checker(os.path.abspath(options.vidi), options.verilator)
     checks = (check_left_out, check_lower, check_words, check_same, check_make_map, check_capture, check_capture_range, check_benches, check_show,
-              check_explain, check_quick_build, *check_field.CHECKS, *check_replays.CHECKS, *check_said.CHECKS)
+              check_explain, check_quick_build, *check_field.CHECKS, *check_replays.CHECKS, *check_said.CHECKS, *check_stores.CHECKS)
     try:
         for check in (check for check in checks if options.only in check.__name__):
             check(checker)

@@ -176,7 +176,7 @@ def reading(top, files, defines=(), params=(), is_sv=False, memories="-nomem2reg
     flags = "".join(f" -D{define}" for define in defines) + (" -sv" if is_sv else "")
     values = "".join(f" -chparam {name} {value}" for name, value in params)
     reads = [f"read_verilog {memories}{flags} {quoted(path)}" for path in files]
-    return reads + [f"hierarchy -check -top {top}{values}", "rename -top " + top, "proc", "flatten", "tribuf", "memory_collect"]
+    return reads + [f"hierarchy -check -top {top}{values}", "rename -top " + top, "proc -norom", "flatten", "tribuf", "memory_collect"]
 
 
 def read(commands_of, folder):

@@ -32,7 +32,7 @@ class Trace:
     before each packet, in cycles."""
 
     def __init__(self, version, channels, packets, gaps):
-        self.version, self.channels, self.packets, self.gaps = version, channels, packets, gaps
+        self.version, self.channels, self.packets, self.gaps = version, channels, packets, gaps  # gaps is empty in version 1
 
     def cycles(self):
         """The cycle in which each packet began, of version 2."""
@@ -43,30 +43,55 @@ class Trace:
         return found
 
 
-def read(content):
-    """The trace that these bytes are."""
-    source, packets, gaps = Bytes(content), [], []
-    magic = source.content[:8]
-    if magic not in (b"VIDITRC1", b"VIDITRC2"):
+def header_of(source):
+    """The version and the channels of a trace."""
+    if source.content[:8] not in (b"VIDITRC1", b"VIDITRC2"):
         raise Problem("no trace: it doesn't begin with VIDITRC1 or VIDITRC2")
     version, channels = source.take(8)[7] - ord("0"), []
     for _ in range(source.number()):
         is_inward = source.number() == 0
         name = source.take(source.number()).decode(errors="replace")
         channels.append(Table(name, is_inward, list(source.take(source.number()))))
-    size = (len(channels) + 7) // 8
-    while source.number() != 0:
-        kind = source.content[source.at - 1]
-        if kind != 1:
-            raise Problem(f"packet {len(packets)} is a reset" if (version, kind) == (2, 2) else f"the trace has no packet at byte {source.at - 1}")
-        gaps += [source.number(2)] if version == 2 else []
-        starts, ends = (int.from_bytes(source.take(size), "little") for _ in range(2))
-        started = {channel.name: [source.number((width + 7) // 8) for width in channel.widths]
-                   for at, channel in enumerate(channels) if starts >> at & 1}
-        packets.append((started, [channel.name for at, channel in enumerate(channels) if ends >> at & 1]))
-    if source.number(4) != len(packets) or source.at != len(content):
+    return version, channels
+
+
+def next_packet(source, trace):
+    """Takes the next packet into a trace; False at its end mark."""
+    kind, size = source.number(), (len(trace.channels) + 7) // 8
+    if kind == 0:
+        return False
+    if kind != 1:
+        raise Problem(f"packet {len(trace.packets)} is a reset" if (trace.version, kind) == (2, 2) else f"the trace has no packet at byte {source.at - 1}")
+    gap = [source.number(2)] if trace.version == 2 else []
+    starts, ends = (int.from_bytes(source.take(size), "little") for _ in range(2))
+    started = {channel.name: [source.number((width + 7) // 8) for width in channel.widths]
+               for at, channel in enumerate(trace.channels) if starts >> at & 1}
+    trace.packets.append((started, [channel.name for at, channel in enumerate(trace.channels) if ends >> at & 1]))
+    trace.gaps += gap
+    return True
+
+
+def read(content):
+    """The trace that these bytes are."""
+    source = Bytes(content)
+    trace = Trace(*header_of(source), [], [])
+    while next_packet(source, trace):
+        pass
+    if source.number(4) != len(trace.packets) or source.at != len(content):
         raise Problem("the trace has no end mark")
-    return Trace(version, channels, packets, gaps if version == 2 else None)
+    return trace
+
+
+def ended(content):
+    """The bytes up to the last whole packet with an end mark, and how many packets they have."""
+    source = Bytes(content)
+    trace, whole = Trace(*header_of(source), [], []), source.at
+    try:
+        while next_packet(source, trace):
+            whole = source.at
+    except Problem:
+        pass
+    return content[:whole] + b"\0" + len(trace.packets).to_bytes(4, "big"), len(trace.packets)
 
 
 def read_file(path):
