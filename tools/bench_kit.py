@@ -94,39 +94,45 @@ def state(bench):
 
 
 def tables(bench):
-    """The memories that hold a trace, and the task that takes its next packet."""
+    """The memories that hold a trace: of each packet its gap and its masks, of each channel contents, and in which packets it starts and ends."""
     trace, count = bench.trace, len(bench.channels)
-    yield f"  integer packets;\n  integer begins [0:{len(trace.packets)}];"
+    yield f"  integer packets;\n  reg [15:0] gap;\n  reg {span(count)}starting, ending;"
+    yield f"  reg [{2 * count + 15}:0] packet [0:{len(trace.packets)}];\n  integer begins [0:{len(trace.packets)}];"
     for at, channel in bench.each():
         starts, ends = (max(1, sum(channel.name in packet[side] for packet in trace.packets)) for side in (0, 1))
         yield f"  integer starts_{at}, ends_{at};\n  integer start_{at} [0:{starts}];\n  integer end_{at} [0:{ends}];"
         yield f"  integer starts_before_{at} [0:{len(trace.packets)}];\n  integer ends_before_{at} [0:{len(trace.packets)}];"
         yield from (f"  reg {span(width)}{name} [0:{starts}];" for name, width in zip(channel.contents("s"), channel.widths))
-    yield f"  task packet;  // the next packet: the cycles before it, the channels that start, and those that end\n    input [15:0] gap;"
-    yield f"    input {span(count)}starting;\n    input {span(count)}ending;\n    begin"
-    yield "      begins[packets] = packets == 0 ? gap : begins[packets - 1] + 1 + gap;"
-    for at, _ in bench.each():
-        one = f"[{at}]" if count > 1 else ""
-        yield f"      starts_before_{at}[packets] = starts_{at}; ends_before_{at}[packets] = ends_{at};"
-        yield f"      if (starting{one}) begin start_{at}[starts_{at}] = packets; starts_{at} = starts_{at} + 1; end"
-        yield f"      if (ending{one}) begin end_{at}[ends_{at}] = packets; ends_{at} = ends_{at} + 1; end"
-    yield "      packets = packets + 1;\n    end\n  endtask"
 
 
-def loading(bench):
-    """The task that takes the whole trace."""
+def packet_lines(bench):
+    """The statements that fill the memories: of each packet the gap, the channels that start and those that end, and contents."""
     trace, count, places = bench.trace, len(bench.channels), {channel.name: 0 for channel in bench.channels}
-    yield "  task load;\n    begin\n      packets = 0; " + " ".join(f"starts_{at} = 0; ends_{at} = 0;" for at, _ in bench.each())
     for number, (started, ended) in enumerate(trace.packets):
+        starts, ends = (sum(1 << at for at, channel in bench.each() if channel.name in names) for names in (started, ended))
+        word = ((trace.gaps[number] if trace.gaps else 0) << count | starts) << count | ends
+        yield f"      packet[{number}] = {2 * count + 16}'h{word:x};"
         for channel in bench.channels:
             if channel.name in started:
                 for name, width, value in zip(channel.contents("s"), channel.widths, started[channel.name]):
                     yield f"      {name}[{places[channel.name]}] = {width}'h{value:x};"
                 places[channel.name] += 1
-        masks = (sum(1 << at for at, channel in bench.each() if channel.name in names) for names in (started, ended))
-        gap = trace.gaps[number] if trace.gaps else 0
-        yield "      packet({}, {});".format(gap, ", ".join(f"{count}'h{value:x}" for value in masks))
-    yield "    end\n  endtask"
+
+
+def loading(bench):
+    """The task that takes the whole trace."""
+    yield "  task load;\n    begin"
+    yield from packet_lines(bench)
+    yield "      " + " ".join(f"starts_{at} = 0; ends_{at} = 0;" for at, _ in bench.each())
+    yield f"      for (packets = 0; packets < {len(bench.trace.packets)}; packets = packets + 1) begin"
+    yield "        {gap, starting, ending} = packet[packets];"
+    yield "        begins[packets] = packets == 0 ? gap : begins[packets - 1] + 1 + gap;"
+    for at, _ in bench.each():
+        one = f"[{at}]" if len(bench.channels) > 1 else ""
+        yield f"        starts_before_{at}[packets] = starts_{at}; ends_before_{at}[packets] = ends_{at};"
+        yield f"        if (starting{one}) begin start_{at}[starts_{at}] = packets; starts_{at} = starts_{at} + 1; end"
+        yield f"        if (ending{one}) begin end_{at}[ends_{at}] = packets; ends_{at} = ends_{at} + 1; end"
+    yield "      end\n    end\n  endtask"
 
 
 def conditions(bench):
@@ -223,11 +229,13 @@ def look(bench):
     for at, channel in bench.each():
         for side, port in (("v", channel.valid), ("r", channel.ready)):
             yield f"      {side}_{at} = {bench.pin(port)};"
-            yield (f"      if (!is_over && ^{side}_{at} === 1'bx) begin is_over = 1; $display(\"# x at {port} in cycle %0d, time %0d: is its register "
-                   "reset? make_bench --zero sets it\", cycle, $time); end")
+            yield f"      if (!is_over && ^{side}_{at} === 1'bx) begin\n        is_over = 1;"
+            yield f'        $display("# x at {port} in cycle %0d, time %0d: is its register reset? make_bench --zero sets it", cycle, $time);'
+            yield "      end"
         for name, port in zip(channel.contents("d"), channel.ports):
             yield f"      {name} = {bench.pin(port)};\n      if (^{name} === 1'bx) begin"
-            yield f"        if (v_{at} && !x_{at}) $display(\"# x in {port} in cycle %0d, time %0d; it counts as 0, as do all later ones\", cycle, $time);"
+            yield f"        if (v_{at} && !x_{at})"
+            yield f'          $display("# x in {port} in cycle %0d, time %0d; it counts as 0, as do all later ones", cycle, $time);'
             yield f"        x_{at} = x_{at} | v_{at}; {name} = known({name});\n      end"
         yield f"      shown_{at} = v_{at} & gate_{at};"
     for at, channel in bench.each():
@@ -275,7 +283,8 @@ def beginning(bench):
     yield from (f"    dut.{name} = 0;" for name in bench.zeros)
     if bench.plan.reset:
         port, active, cycles = bench.plan.reset
-        yield f"    {bench.pin(port)} = {active};\n    #1 offer;\n    repeat ({cycles}) begin #5 clk = 1; #5 clk = 0; end\n    {bench.pin(port)} = {1 - active};"
+        yield f"    {bench.pin(port)} = {active};\n    #1 offer;\n    repeat ({cycles}) begin #5 clk = 1; #5 clk = 0; end"
+        yield f"    {bench.pin(port)} = {1 - active};"
     yield "    off = 0;"
     if bench.trace and not bench.rest:
         yield "    is_over = has_ended(0);"

@@ -16,7 +16,8 @@ UNDRIVEN = [
      "endmodule\n", "lower: typo.v line 3: ful isn't declared, so it would be a wire of one bit; declare it, or mend the name"),
     ("bare", "module bare(input clk, input s_valid, output s_ready);\nwire full;\nassign s_ready = ~full;\nendmodule\n",
      "lower: bare.v line 2: full is read, and nothing drives it; drive it, or take it out"),
-    ("half", "module half(input [1:0] a, output [3:0] b);\nwire [3:0] x;\nassign x[0] = a[0];\nassign x[3] = a[1];\nassign b = x ^ 4'd5;\nendmodule\n",
+    ("half", "module half(input [1:0] a, output [3:0] b);\nwire [3:0] x;\nassign x[0] = a[0];\nassign x[3] = a[1];\nassign b = x ^ 4'd5;\n"
+     "endmodule\n",
      "lower: half.v line 2: x[2:1] is read, and nothing drives it; drive it, or take it out"),
     ("open", "module open(input clk, output q);\nchild u(.clk(clk), .q(q));\nendmodule\n"
      "module child(input clk, input d, output reg q);\nalways @(posedge clk) q <= d;\nendmodule\n",
@@ -41,9 +42,9 @@ def check_undriven(checker):
     checker.case("lower prints Yosys's warnings", ("lower: Yosys warns: Resizing cell port cut.u.d from 9 bits to 8 bits.\n" in said, status),
                  (True, 0))
     said, status = checker.run("lower", "-v", "one", "one_low.v", "one.v")
-    checker.case("lower -v", ([line for line in said.splitlines() if line.startswith("lower: ")], status),
-                 (["lower: Yosys reads one.v ..", "lower: Yosys lowers it ..",
-                   "lower: vidi checks a text of {} lines ..".format(len(tool_kit.text_of(os.path.join(checker.folder, "one_low.v")).splitlines()))], 0))
+    length = len(tool_kit.text_of(os.path.join(checker.folder, "one_low.v")).splitlines())
+    checker.case("lower -v", ([line for line in said.splitlines() if line.startswith("lower: ")], status), (
+        ["lower: Yosys reads one.v ..", "lower: Yosys lowers it ..", f"lower: vidi checks a text of {length} lines .."], 0))
 
 
 def check_ranges(checker):
@@ -84,12 +85,23 @@ def check_capture_notes(checker):
     again = waves + "#56\n1r\n#60\n0!\n#65\n1!\n#66\n0r\n1a\nb111 c\n#70\n0!\n#75\n1!\n"
     checker.write("again.vcd", again)
     checker.refused("capture of two resets", ["capture", "again.vcd", "bench.dut", "two_words.map", "-o", "out"],
-                    "capture: again.vcd time 65: rst is active again; cut the waves before it with --cycles 5, or begin behind it with --from 2", "out")
+                    "capture: again.vcd time 65: rst is active again; cut the waves before it with --cycles 5, or begin behind it with --from 2",
+                    "out")
     said = checker.run("capture", "again.vcd", "bench.dut", "two_words.map", "--from", "2")
-    checker.case("capture from the second reset", said, ("cycles 1\na send 7\nb take all\ncapture: cycles before the reset, 5 of them, are left out\n", 0))
+    checker.case("capture from the second reset", said, (
+        "cycles 1\na send 7\nb take all\ncapture: cycles before the reset, 5 of them, are left out\n", 0))
     checker.refused("capture from a third reset", ["capture", "again.vcd", "bench.dut", "two_words.map", "--from", "3", "-o", "out"],
                     "capture: again.vcd: no cycle behind a reset number 3; rst acts 2 times", "out")
-    checker.write("bad.map", plan.replace("in a a_v", "in a a_x"))
+    late = waves.replace("#0\n0!\n1r\n", "#0\n0!\n0r\n").replace("#10\n0!\n0r\n", "#10\n0!\n1r\n").replace("#20\n0!\n", "#20\n0!\n0r\n")
+    checker.write("late.vcd", late)
+    checker.refused("capture of a reset that is turned and begins late", ["capture", "late.vcd", "bench.dut", "turned.map", "-o", "out"],
+                    "capture: late.vcd time 25: rst is active again; cut the waves before it with --cycles 1, or begin behind it with --from 2; with "
+                    "`reset rst 1` in the map there would be 5 cycles", "out")
+    checker.write("still.vcd", waves.partition("#5\n")[0])
+    checker.write("free.map", plan.replace("reset rst 1 1\n", "tie rst 1\n"))
+    checker.refused("capture of waves without an edge", ["capture", "still.vcd", "bench.dut", "free.map", "-o", "out"],
+                    "capture: still.vcd: no rising edge of clk outside reset", "out")
+    checker.refused("capture --cycles of a trace", [*WORDS, "--trace", "out", "--cycles", "0"], "capture: --cycles is 0, not 1 or more", "out")
     for word, value in (("--from", "0"), ("--each-step", "0")):
         checker.refused(f"capture {word} {value}", [*WORDS, "-o", "out", word, value], f"capture: {word} is {value}, not 1 or more", "out")
 
@@ -101,6 +113,10 @@ def check_capture_forms(checker):
     with gzip.open(os.path.join(checker.folder, "two_words.vcd.gz"), "wt") as file:
         file.write(waves)
     checker.case("capture of gzip", checker.run("capture", "two_words.vcd.gz", *WORDS[2:]), (script, 0))
+    with open(os.path.join(checker.folder, "two_words.vcd.gz"), "rb") as file:
+        tool_kit.write(os.path.join(checker.folder, "cut.gz"), file.read()[:-12])
+    checker.refused("capture of a cut gzip", ["capture", "cut.gz", *WORDS[2:], "-o", "out"],
+                    "capture: cut.gz: Compressed file ended before the end-of-stream marker was reached", "out")
     checker.case("capture of standard input", checker.run("capture", "-", *WORDS[2:], given=waves), (script, 0))
     checker.case("capture of both", checker.run(*WORDS, "-o", "both", "--trace", "both.trace")[1], 0)
     checker.case("capture of both, the script", tool_kit.text_of(os.path.join(checker.folder, "both")), script.partition("capture:")[0])
@@ -117,7 +133,8 @@ def check_capture_forms(checker):
     samples = tool_kit.text_of(os.path.join(CASES, "samples.vcd"))
     checker.write("samples.vcd", samples)
     checker.case("capture --each-step", checker.run("capture", "samples.vcd", "ila", "two_words.map", "--each-step"),
-                 (script.replace("capture: b", "capture: no rst in these waves: Vidi's run begins behind a reset, so it is another one\ncapture: b"), 0))
+                 (script.replace("capture: b", "capture: no rst in these waves: Vidi's run begins behind a reset, so it is another one\n"
+                                 "capture: b"), 0))
     checker.write("odd.vcd", samples.replace("#4", "#5"))
     checker.refused("capture of odd steps", ["capture", "odd.vcd", "ila", "two_words.map", "--each-step", "2", "-o", "out"],
                     "capture: odd.vcd time 1: no step of 2 behind time 0; say --each-step with the step of these waves", "out")
@@ -157,7 +174,8 @@ def check_capture_run(checker):
     said = checker.run(*WORDS, "-o", "seen", "--check", "adds.v")
     checker.case("capture --check of another", (said[0].splitlines()[0], said[1]),
                  ("parts from the waves in cycle 2 time 35: waves: 2 start a 6, 2 start b 5; vidi run: 2 start a 6, 2 start b 6", 7))
-    checker.refused("capture --check of no script", [*WORDS, "--check", "stage.v"], "capture: --check plays the script that is written: say -o OUT too")
+    checker.refused("capture --check of no script", [*WORDS, "--check", "stage.v"],
+                    "capture: --check plays the script that is written: say -o OUT too")
     said = checker.run(*WORDS, "-o", "seen", "--check", "two_words.map")
     checker.case("capture --check of no design", (said[0].splitlines()[-1], said[1]),
                  ("capture: seen is written; vidi run of it on two_words.map: vidi: refused design: E2 item line 1", 1))
@@ -214,6 +232,8 @@ def check_make_map_more(checker):
     checker.write("turned.map", CRC_MAP.replace("reset rst 1", "reset rst 0"))
     checker.case("make_map --check of a turned reset", checker.run("make_map", "--check", "turned.map", "crc.v", "crc"),
                  ("turned.map: with `reset rst 0` s isn't ready in 100 cycles, with `reset rst 1` it is: turn it\n", 1))
+    checker.refused("make_map --check of another top", ["make_map", "--check", "crc.map", "bus.v", "bus"],
+                    "make_map: crc.map: its top is crc, not bus")
     checker.write("dead.v", CRC.replace("!rst & (", "1'b0 & ("))
     checker.case("make_map --check of a ready that never rises", checker.run("make_map", "--check", "crc.map", "dead.v", "crc"),
                  ("crc.map: s isn't ready in 100 cycles with zeros sent: is the reset right, is a tie?\n", 1))
@@ -237,4 +257,5 @@ def check_explain_order(checker):
                   ["and 2 more; --most says how many are explained", "diverged"], 7))
 
 
-CHECKS = (check_undriven, check_ranges, check_capture_notes, check_capture_forms, check_capture_length, check_capture_run, check_make_map_more, check_explain_order)
+CHECKS = (check_undriven, check_ranges, check_capture_notes, check_capture_forms, check_capture_length, check_capture_run, check_make_map_more,
+          check_explain_order)

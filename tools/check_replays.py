@@ -44,14 +44,18 @@ def in_icarus(checker, bench, *files):
     return done.stderr
 
 
-def in_verilator(checker, bench, *files):
-    """What a bench prints in Verilator. What Verilator brings itself is compiled once."""
-    words = ["verilator", "--binary", "--timing", "--trace", "-Wno-fatal", "-Wno-lint", "--default-language", "1364-2005", "--top-module", "vidi_bench",
-             "-MAKEFLAGS", QUICK, "--Mdir", "verilated", "-o", "bench", bench, *files]
+def built_by_verilator(checker, top, flags, *files):
+    """Builds the program run of a top in its folder, where what Verilator brings itself is compiled once. Gives what it said where it failed."""
+    words = ["verilator", "--binary", "--timing", "--trace", "-Wno-fatal", "-Wno-lint", *flags, "--top-module", top, "-MAKEFLAGS", QUICK,
+             "--Mdir", f"{top}_built", "-o", "run", *files]
     done = subprocess.run(words, cwd=checker.folder, capture_output=True, text=True)
-    if done.returncode:
-        return done.stderr
-    return subprocess.run(["verilated/bench"], cwd=checker.folder, capture_output=True, text=True).stdout
+    return done.stderr if done.returncode else None
+
+
+def in_verilator(checker, bench, *files):
+    """What a bench prints in Verilator."""
+    failed = built_by_verilator(checker, "vidi_bench", ["--default-language", "1364-2005"], bench, *files)
+    return failed or subprocess.run(["vidi_bench_built/run"], cwd=checker.folder, capture_output=True, text=True).stdout
 
 
 def played(checker, play, words, *files):
@@ -212,8 +216,8 @@ def check_random(checker):
 
 WORDS = [  # the words of make_bench, and what it says
     (["pass.trace", "pass.map", "-o", "b.v", "--by", "cycles"],
-     "pass.trace: a trace of version 1 doesn't say in which cycles its packets began: say --script with the script that it was made by, or play it by "
-     "packets or by clocks"),
+     "pass.trace: a trace of version 1 doesn't say in which cycles its packets began: say --script with the script that it was made by, or play it "
+     "by packets or by clocks"),
     (["pass.trace", "other.map", "-o", "b.v"], "pass.trace: other channels: the map has in c with 1 contents, the trace in a with 1 contents"),
     (["reset.trace", "pass.map", "-o", "b.v"], "reset.trace: packet 1 is a reset"),
     (["pass.map", "pass.map", "-o", "b.v"], "pass.map: no trace: it doesn't begin with VIDITRC1 or VIDITRC2"),
@@ -226,6 +230,8 @@ WORDS = [  # the words of make_bench, and what it says
     (["--script", "bad.script", "pass.map", "-o", "b.v", "--files", "pass.v"], "bad.script line 2: no step of a: a take 1"),
     (["--script", "none.script", "pass.map", "-o", "b.v", "--files", "pass.v"], "none.script line 2: no line of a script of this map: c send 1"),
     (["pass.trace", "pass.map", "-o", "b.txt"], "b.txt: the name of a bench ends in .v and has letters, digits, _, -, + and . alone"),
+    (["--script", "pass.script", "pass.map", "-o", "b.v", "--files", "none.v"], "none.v: No such file or directory"),
+    (["--script", "pass.script", "pass.map", "-o", "b.v", "--files", "other.v"], re.compile("make_bench: Icarus: .*pass.*")),
     (["pass.trace", "pass.map", "-o", "b.v", "--cycles", "0"], "--cycles is 0, not 1 or more")]
 
 
@@ -234,6 +240,7 @@ def check_bench_words(checker):
     _, design, plan, script, stalls = files_of("pass")
     for name, path in (("pass.v", design), ("pass.map", plan), ("pass.script", script)):
         checker.write(name, tool_kit.text_of(path))
+    checker.write("other.v", "module other(input clk);\nendmodule\n")
     checker.write("other.map", tool_kit.text_of(plan).replace("in a ", "in c "))
     for name, text in (("wide", "cycles 4\na send 256\n"), ("bad", "cycles 4\na take 1\n"), ("none", "cycles 4\nc send 1\n")):
         checker.write(f"{name}.script", text)
@@ -243,28 +250,55 @@ def check_bench_words(checker):
     tool_kit.write(os.path.join(checker.folder, "reset.trace"), bytes.fromhex(PASS_HEADER + "010000010105" + "020001" + "0000000002"))
     if checker.has("the words of make_bench", "iverilog"):
         for words, line in WORDS:
-            checker.refused(f"make_bench {' '.join(words)}", ["make_bench", *words], f"make_bench: {line}", "b.v")
+            wanted = line if isinstance(line, re.Pattern) else f"make_bench: {line}"
+            checker.refused(f"make_bench {' '.join(words)}", ["make_bench", *words], wanted, "b.v")
         said, _ = played(checker, in_icarus, ["pass.trace", "pass.map"], "pass.v")
         checker.case("a bench of a register that nothing resets", said.splitlines()[2],
                      "# x at a_r in cycle 0, time 5: is its register reset? make_bench --zero sets it")
+
+
+def check_bench_params(checker):
+    """Parameters and macros of the design: the widths are those of the design as it is built, and the head of the bench says how."""
+    if not checker.has("make_bench with parameters", "iverilog"):
+        return
+    checker.write("wires.sv", "module wires #(parameter W = 4) (input logic clk, input logic a_v, output logic a_r, input logic [W-1:0] a_d,\n"
+                  "  output logic b_v, input logic b_r, output logic [`MORE+W-1:0] b_d, input logic [1:0] mode);\n"
+                  "assign a_r = b_r, b_v = a_v, b_d = {a_d, mode};\nendmodule\n")
+    checker.write("wires.map", "top wires\nclock clk\ntie mode 3\nin a a_v a_r a_d\nout b b_v b_r b_d\n")
+    checker.write("wires.script", "cycles 3\na send 0xabc\nb wait 1\nb take all\n")
+    words = ["--script", "wires.script", "wires.map", "--files", "wires.sv", "-D", "MORE=2", "--param", "W=12"]
+    said, status = checker.run("make_bench", *words, "-o", "wide.v")
+    head = tool_kit.text_of(os.path.join(checker.folder, "wide.v")).splitlines()[1:3]
+    checker.case("the head of a bench", (said, status, head), ("", 0, [
+        "//   in Icarus: iverilog -g2012 -DMORE=2 -s vidi_bench -o wide.vvp wide.v wires.sv && vvp -n wide.vvp",
+        "//   in Verilator: verilator --binary --timing --trace -Wno-fatal -Wno-lint -DMORE=2 --top-module vidi_bench -o wide wide.v wires.sv && "
+        "obj_dir/wide"]))
+    done = subprocess.run(head[0].partition(": ")[2], shell=True, cwd=checker.folder, capture_output=True, text=True)
+    checker.case("a bench with parameters", [line for line in done.stdout.splitlines() if not line.startswith("VCD")], [
+        "channel 0 in a 12", "channel 1 out b 14", "0 start a 2748 clock 0 0", "0 start b 10995 clock 0 0", "1 end a clock 0 0", "1 end b clock 0 0",
+        "packets 2", "# 3 cycles of the script"])
 
 
 # Designs with a planted bug, which BUG brings in: whether a replay of the buggy design's trace on it shows it again, and on the good one.
 PLANTED = {"sums": ("data", 0, 1), "slice": ("handshake", 0, 0), "merge": ("race", 2, 2)}
 
 
+def run_bench(checker, simulator, flags, *sources):
+    """What the module bench prints in a simulator, and where the instance dut stands in its waves."""
+    if simulator == "icarus":
+        subprocess.run(["iverilog", "-g2005", *flags, "-s", "bench", "-o", "bench.vvp", *sources], cwd=checker.folder, check=True)
+        words, scope = ["vvp", "-n", "bench.vvp"], "bench.dut"
+    else:
+        built_by_verilator(checker, "bench", flags, *sources)
+        words, scope = ["bench_built/run"], "TOP.bench.dut"
+    return subprocess.run(words, cwd=checker.folder, capture_output=True, text=True, check=True).stdout, scope
+
+
 def waves_of(checker, name, simulator, is_buggy=True):
     """What the bench of a planted design prints in a simulator; its waves are in bench.vcd. Gives the scope of the design too."""
     sources = [os.path.join(CASES, f"{name}_bench.v"), os.path.join(CASES, f"{name}.v")]
     flags = ["-DBUG"] * is_buggy
-    if simulator == "icarus":
-        words, run, scope = ["iverilog", "-g2005", *flags, "-o", "planted", *sources], ["vvp", "-n", "planted"], "bench.dut"
-    else:
-        words = ["verilator", "--binary", "--timing", "--trace", "-Wno-fatal", "-Wno-lint", *flags, "--top-module", "bench", "-MAKEFLAGS", QUICK,
-                 "--Mdir", "planted_built", "-o", "planted", *sources]
-        run, scope = ["planted_built/planted"], "TOP.bench.dut"
-    subprocess.run(words, cwd=checker.folder, capture_output=True, check=True)
-    said = subprocess.run(run, cwd=checker.folder, capture_output=True, text=True, check=True).stdout
+    said, scope = run_bench(checker, simulator, flags, *sources)
     return "".join(line + "\n" for line in said.splitlines() if re.match(r"\d+ \w+ \d+$", line)), scope
 
 
@@ -306,7 +340,7 @@ def check_planted(checker):
         source, is_broken = os.path.join(CASES, f"{name}.v"), kind == "handshake"
         checker.case(f"again of {name} by its trace", statuses(checker, plan, "seen.trace"), (bug, good))
         checker.case(f"again of {name} by its script", statuses(checker, plan, "seen.trace", "--script", "seen"), (0, 0 if is_broken else 1))
-        checker.case(f"again of {name} by a line", statuses(checker, plan, "--script", "seen", "--until", "unstable"), (0, 1) if is_broken else (1, 1))
+        checker.case(f"again of {name} by a line", statuses(checker, plan, "--script", "seen", "--until", "unstable"), (1 - is_broken, 1))
         for way, words in (("packets", ["seen.trace", plan, "--by", "packets"]), ("cycles", ["--script", "seen", plan, "--files", source])):
             checker.write("buggy.v", "`define BUG\n" + tool_kit.text_of(source))
             said, written = played(checker, in_icarus, words, "buggy.v")
@@ -314,7 +348,8 @@ def check_planted(checker):
                 checker.case(f"{name} by {way} in Icarus", checker.run("vidi", "compare", "seen.trace", "bench.trace"), ("no divergence\n", 0))
             checker.case(f"{name} by {way} in Icarus, a broken handshake", "vidi: unstable m cycle" in said, is_broken)
             said, _ = played(checker, in_icarus, words, source)
-            checker.case(f"{name} without its bug, by {way} in Icarus", "# differs" in said or "# short" in said, kind != "handshake" and way == "packets")
+            parts = "# differs" in said or "# short" in said
+            checker.case(f"{name} without its bug, by {way} in Icarus", parts, not is_broken and way == "packets")
         if checker.has(f"{name} from Verilator", "verilator", "g++", "make"):
             checker.case(f"{name} from Verilator is the same", bring_in(checker, name, "verilator"), (plan, script, trace))
 
@@ -325,15 +360,16 @@ def check_again_words(checker):
         return
     plan, *_ = bring_in(checker, "slice", "icarus")
     checker.case("again of a trace that ends in flight", checker.run("again", "good.v", plan, "seen.trace"), (
-        "the failure is there: it comes as recorded\nthe trace ends while m waits: a handshake that broke then isn't in it; its script shows that, with "
-        "--until unstable\n", 0))
+        "the failure is there: it comes as recorded\nthe trace ends while m waits: a handshake that broke then isn't in it; its script shows that, "
+        "with --until unstable\n", 0))
     checker.case("again of a run", checker.run("again", "bug.v", plan, "--script", "seen", "--until", "unstable m"),
                  ("the failure is there: vidi: unstable m cycle 13\n", 0))
     checker.case("again of a good run", checker.run("again", "good.v", plan, "--script", "seen", "--until", "unstable m"),
                  ("the failure isn't there: no line of the run has unstable m; it ends with cycles 14\n", 1))
     checker.case("again of no design", checker.run("again", "none.v", plan, "seen.trace"), ("again: none.v: No such file or directory\n", 2))
     checker.case("again without words", checker.run("again", "good.v", plan), ("again: wants TRACE, or --script SCRIPT with --until TEXT\n", 2))
-    checker.case("again of another design", checker.run("again", plan, plan, "seen.trace"), ("something else: vidi: refused design: E2 item line 1\n", 2))
+    said = checker.run("again", plan, plan, "seen.trace")
+    checker.case("again of another design", said, ("something else: vidi: refused design: E2 item line 1\n", 2))
 
 
 def check_shrink(checker):
@@ -342,7 +378,8 @@ def check_shrink(checker):
     checker.write("flick.v", "module flick(input clk, input a_v, output a_r, input [3:0] a_d, output reg b_v, input b_r, output reg [3:0] b_d);\n"
                   "assign a_r = 1'b1;\nalways @(posedge clk) begin\n  b_v <= b_v & ~b_r | a_v;\n  if (a_v) b_d <= a_d;\nend\nendmodule\n")
     checker.write("flick.map", "top flick\nclock clk\nin a a_v a_r a_d\nout b b_v b_r b_d\n")
-    checker.write("long", "cycles 40\na wait 3\na send 1\na wait 4\na send 2\na send 3\na wait 1\na send 4\nb wait 5\nb take 1\nb wait 9\nb take all\n")
+    checker.write("long", "cycles 40\na wait 3\na send 1\na wait 4\na send 2\na send 3\na wait 1\na send 4\nb wait 5\nb take 1\nb wait 9\n"
+                  "b take all\n")
     # Without waits and takes the first two sends do it: 1 shows in cycle 1, and 2 in cycle 2
     said, status = checker.run("shrink", "flick.v", "flick.map", "long", "--until", "unstable b", "-o", "short")
     lines = tool_kit.text_of(os.path.join(checker.folder, "short")).splitlines()
@@ -359,6 +396,17 @@ def check_shrink(checker):
     checker.write("headless", "a send 1\n")
     checker.refused("shrink of no script", ["shrink", "flick.v", "flick.map", "headless", "--until", "x", "-o", "none"],
                     "shrink: headless: its first line isn't cycles N", "none")
+
+
+def check_readme(checker):
+    """The first minute of the README, command by command, prints what stands there."""
+    text = tool_kit.text_of(os.path.join(tool_kit.HERE, "..", "README.md")).partition("## One minute\n")[2].partition("\n## ")[0]
+    lines = [line[4:] for line in text.splitlines() if line.startswith("    ")]
+    commands, prints = [line[2:] for line in lines if line.startswith("$ ")], [line for line in lines if not line.startswith("$ ")]
+    shutil.copytree(os.path.join(EXAMPLES, "pass"), os.path.join(checker.folder, "examples", "pass"))
+    os.symlink(checker.vidi, os.path.join(checker.folder, "vidi-unproved"))
+    done = subprocess.run(["bash", "-c", "\n".join(commands)], cwd=checker.folder, capture_output=True, text=True)
+    checker.case("the first minute of README.md", (done.stdout.splitlines(), done.stderr, len(commands)), (prints, "", 4))
 
 
 # A design of Debian's package iverilog, which isn't copied in; its blocks and keys with their ciphers are known answers of DES.
@@ -383,7 +431,9 @@ def check_debian(checker):
         checker.run("vidi", "record", "des_low.v", "des.map", "des.script", "free", "des.trace")
         for way in ("clocks", "packets"):
             said, written = played(checker, in_icarus, ["des.trace", "des.map", "--by", way], box, DES)
-            checker.case(f"DES by {way} in Icarus", (written, said.splitlines()[-1][:24]), (bytes_of(checker, "des.trace"), "# all of the trace came,"))
+            wanted = bytes_of(checker, "des.trace"), "# all of the trace came,"
+            checker.case(f"DES by {way} in Icarus", (written, said.splitlines()[-1][:24]), wanted)
 
 
-CHECKS = (check_benches, check_gaps, check_replayers, check_random, check_bench_words, check_planted, check_again_words, check_shrink, check_debian, check_in_verilator)
+CHECKS = (check_benches, check_gaps, check_replayers, check_random, check_bench_words, check_bench_params, check_planted,
+          check_again_words, check_shrink, check_readme, check_debian, check_in_verilator)

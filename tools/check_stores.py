@@ -24,15 +24,7 @@ def watched(checker, simulator):
     text = tool_kit.text_of(os.path.join(CASES, "sums_bench.v"))
     text = text.replace("$finish(0);", "begin #1 store.close; $finish(0); end").replace("  always #5", f"  {line};\n  always #5")
     checker.write("watched.v", text)
-    if simulator == "icarus":
-        subprocess.run(["iverilog", "-g2005", "-s", "bench", "-o", "watched.vvp", "watched.v", source, "store.v"], cwd=checker.folder, check=True)
-        words, scope = ["vvp", "-n", "watched.vvp"], "bench.dut"
-    else:
-        words = ["verilator", "--binary", "--timing", "--trace", "-Wno-fatal", "-Wno-lint", "--top-module", "bench", "-MAKEFLAGS", check_replays.QUICK,
-                 "--Mdir", "planted_built", "-o", "watched", "watched.v", source, "store.v"]
-        subprocess.run(words, cwd=checker.folder, capture_output=True, check=True)
-        words, scope = ["planted_built/watched"], "TOP.bench.dut"
-    subprocess.run(words, cwd=checker.folder, capture_output=True, check=True)
+    _, scope = check_replays.run_bench(checker, simulator, [], "watched.v", source, "store.v")
     checker.run("trace_of_hex", "trace.hex", "own.trace")
     checker.run("capture", "bench.vcd", scope, plan, "--trace", "seen.trace")
     return check_replays.bytes_of(checker, "own.trace").hex(), check_replays.bytes_of(checker, "seen.trace").hex()
@@ -46,37 +38,15 @@ def check_store(checker):
             checker.case(f"the store's trace in {simulator}", (own, len(own) > 1000), (seen, True))
 
 
-def stream_bench(plan, widths):
-    """A bench of vidi_record_top and vidi_stream: sources that always offer, numbers that grow, a sink that takes one beat in five cycles. It prints
-    each packet as numbers, and the bytes of each beat."""
-    numbers, named = range(len(plan.channels)), ["t_" + port for port in plan.ties] + (["t_" + plan.reset[0]] if plan.reset else [])
-    tops, streams, nets, shows, moves = [".clk(clk)"], [".clk(clk), .rst(rst)"], [], [], []
-    for port in named:
-        value = "rst" if plan.reset and port == "t_" + plan.reset[0] and plan.reset[1] else "!rst" if plan.reset and port == "t_" + plan.reset[0] else "0"
-        tops.append(f".{port}({value})")
-    for at, (name, inward, _, _, ports) in enumerate(plan.channels):
-        contents = [(f"d_{at}_{place}", width) for place, width in enumerate(widths[name])]
-        nets.append(f"  wire g_{at}, start_{at}, stop_{at}, {'r' if inward else 'v'}_{at};\n  reg {'v' if inward else 'r'}_{at} = 1;")
-        nets += [f"  {'reg' if inward else 'wire'} [{width - 1}:0] {content}{' = 1' if inward else ''};" for content, width in contents]
-        own = [f".start_{at}(start_{at})", f".stop_{at}(stop_{at})", f".g_{at}(g_{at})"] + [f".{content}({content})" for content, _ in contents]
-        streams += own
-        tops += own + [f".v_{at}(v_{at})", f".r_{at}(r_{at})"]
-        shows.append((f"start_{at}", f"stop_{at}", [content for content, _ in contents]))
-        moves += [f"if (stop_{at}) {content} <= {content} * 5 + {at + 3};" for content, _ in contents if inward]
-    prints = "\n".join(f'      if ({start}) $write(" s{at}{":%h" * len(contents)}"{"".join(", " + content for content in contents)});\n'
-                       f'      if ({stop}) $write(" e{at}");' for at, (start, stop, contents) in enumerate(shows))
-    some = " | ".join(f"start_{at} | stop_{at}" for at in numbers)
-    gates = " & ".join(f"g_{at}" for at in numbers)
-    return f"""module bench;
+STREAM_BENCH = """module bench;
   reg clk = 0, rst = 1, tready = 0;
-  integer cycle = 0, shut = 0;
-{chr(10).join(nets)}
+  integer cycle = 0, shut = 0, at;
+{nets}
   wire tvalid, tlast;
   wire [2047:0] tdata;
   wire [255:0] tkeep;
-  integer at;
-  vidi_record_top top ({", ".join(tops)});
-  vidi_stream stream ({", ".join(streams)}, .tvalid(tvalid), .tready(tready), .tdata(tdata), .tkeep(tkeep), .tlast(tlast));
+  vidi_record_top top (.clk(clk), {held}{tops});
+  vidi_stream stream (.clk(clk), .rst(rst), {streams}, .tvalid(tvalid), .tready(tready), .tdata(tdata), .tkeep(tkeep), .tlast(tlast));
   always #5 clk = !clk;
   always @(posedge clk) begin
     cycle <= cycle + 1;
@@ -84,23 +54,42 @@ def stream_bench(plan, widths):
     if (cycle == 3) rst <= 0;
     if (!rst) begin
       if (!({gates})) shut <= shut + 1;
-      if ({some}) begin
-        $write("packet");
-{prints}
-        $write("\\n");
-      end
+      if ({some}) begin $write("packet"); {shows} $write("\\n"); end
       if (tvalid & tready) begin
         $write("beat ");
         for (at = 0; at < 256; at = at + 1) if (tkeep[at] === 1'b1) $write("%h", tdata[8*at +: 8]);
         $write("\\n");
       end
-      {" ".join(moves)}
-      if (cycle == 300) begin {" ".join(f"{'v' if inward else 'r'}_{at} <= 0;" for at, (_, inward, *_) in enumerate(plan.channels))} end
+      {moves}
+      if (cycle == 300) begin {ends} end
       if (cycle == 600) begin $display("shut %0d", shut); $finish(0); end
     end
   end
 endmodule
 """
+
+
+def stream_channel(at, inward, widths):
+    """What a channel brings to the bench: its nets, its pins on both modules and on the top alone, what it prints, and how it goes on."""
+    contents, offered, seen = [(f"d_{at}_{place}", width) for place, width in enumerate(widths)], "v" if inward else "r", "r" if inward else "v"
+    nets = [f"  wire g_{at}, start_{at}, stop_{at}, {seen}_{at};\n  reg {offered}_{at} = 1;"]
+    nets += [f"  {'reg' if inward else 'wire'} [{width - 1}:0] {name}{' = 1' if inward else ''};" for name, width in contents]
+    both = [f".start_{at}(start_{at}), .stop_{at}(stop_{at}), .g_{at}(g_{at})"] + [f".{name}({name})" for name, _ in contents]
+    shows = f'if (start_{at}) $write(" s{at}{":%h" * len(contents)}"{"".join(", " + name for name, _ in contents)}); '
+    return {"nets": "\n".join(nets), "streams": ", ".join(both), "tops": ", ".join(both + [f".v_{at}(v_{at}), .r_{at}(r_{at})"]),
+            "shows": shows + f'if (stop_{at}) $write(" e{at}");', "gates": f"g_{at}", "some": f"start_{at} | stop_{at}",
+            "ends": f"{offered}_{at} <= 0;", "moves": " ".join(f"if (stop_{at}) {name} <= {name} * 5 + {at + 3};" for name, _ in contents if inward)}
+
+
+def stream_bench(plan, widths):
+    """A bench of vidi_record_top and vidi_stream: sources that always offer, numbers that grow, a sink that takes one beat in five cycles. It prints
+    each packet as numbers, and the bytes of each beat."""
+    parts = [stream_channel(at, inward, widths[name]) for at, (name, inward, *_) in enumerate(plan.channels)]
+    held = [f".t_{port}({tied})" for port, tied in plan.ties.items()]
+    held += [f".t_{plan.reset[0]}({'rst' if plan.reset[1] else '!rst'})"] if plan.reset else []
+    between = {"nets": "\n", "streams": ", ", "tops": ", ", "gates": " & ", "some": " | "}
+    return STREAM_BENCH.format(held="".join(pin + ", " for pin in held),
+                               **{key: between.get(key, " ").join(part[key] for part in parts) for key in parts[0]})
 
 
 def packets_of(text, plan):
@@ -129,8 +118,8 @@ def streamed(checker, name, texts, room):
     whole = "`define FOUND_MEMORY logic\n" + same_transfers.from_zero(tool_kit.text_of(os.path.join(checker.folder, "wrapped.v")))
     widths = check_replays.widths_of(os.path.join(checker.folder, "design.v"), plan, checker.folder)
     checker.write("streamed.sv", whole + tool_kit.text_of(os.path.join(checker.folder, "stream.v")) + stream_bench(plan, widths))
-    done = subprocess.run(["iverilog", "-g2012", "-s", "bench", "-o", "streamed.vvp", "streamed.sv"], cwd=checker.folder, capture_output=True, text=True)
-    text = subprocess.run(["vvp", "-n", "streamed.vvp"], cwd=checker.folder, capture_output=True, text=True, timeout=120).stdout if not done.returncode else done.stderr
+    subprocess.run(["iverilog", "-g2012", "-s", "bench", "-o", "streamed.vvp", "streamed.sv"], cwd=checker.folder, capture_output=True, check=True)
+    text = subprocess.run(["vvp", "-n", "streamed.vvp"], cwd=checker.folder, capture_output=True, text=True, timeout=120).stdout
     packets = packets_of(text, plan)
     table = [trace_kit.Table(channel, inward, widths[channel]) for channel, inward, *_ in plan.channels]
     wanted = trace_kit.encoded(table, packets)
@@ -139,7 +128,8 @@ def streamed(checker, name, texts, room):
     checker.run("trace_of_hex", "beats.hex", "beats.trace")
     checker.case(f"the stream of {name}", (check_replays.bytes_of(checker, "beats.trace").hex(), len(packets) > 20), (wanted.hex(), True))
     checker.case(f"the stream of {name} shuts gates", int(re.search(r"^shut (\d+)$", text, re.M)[1]) > 0, True)
-    checker.case(f"the stream of {name} is a trace for Vidi", checker.run("vidi", "dump", "beats.trace")[0].splitlines()[-1], f"packets {len(packets)}")
+    dumped = checker.run("vidi", "dump", "beats.trace")[0].splitlines()
+    checker.case(f"the stream of {name} is a trace for Vidi", dumped[-1], f"packets {len(packets)}")
 
 
 def check_stream(checker):
@@ -168,11 +158,36 @@ def check_hex(checker):
                  ("trace_of_hex: cut.hex: the trace ends early; an end mark behind 2 whole packets is added\n", 0))
     checker.case("trace_of_hex's end mark", check_replays.bytes_of(checker, "cut.trace").hex(), whole + "0000000002")
     checker.write("odd.hex", "5649444954524331\n0x02\n")
-    checker.refused("trace_of_hex of other digits", ["trace_of_hex", "odd.hex", "odd.trace"], "trace_of_hex: odd.hex line 2: no whole bytes in hexadecimal: 0x02",
-                    "odd.trace")
+    checker.refused("trace_of_hex of other digits", ["trace_of_hex", "odd.hex", "odd.trace"],
+                    "trace_of_hex: odd.hex line 2: no whole bytes in hexadecimal: 0x02", "odd.trace")
     checker.write("no.hex", "0102\n")
     checker.refused("trace_of_hex of no trace", ["trace_of_hex", "no.hex", "no.trace"],
                     "trace_of_hex: no.hex: no trace: it doesn't begin with VIDITRC1 or VIDITRC2", "no.trace")
+
+
+RESET_BENCH = """module bench;
+  reg clk = 0, off = 1;
+  vidi_store #(.FILE("reset.hex")) store (.clk(clk), .off(off), .v_0(1'b1), .r_0(1'b1), .d_0_0(8'd5), .v_1(1'b0), .r_1(1'b1), .d_1_0(8'd0));
+  initial begin
+    #5 clk = 1; #5 clk = 0; off = 0;
+    #5 clk = 1; #5 clk = 0; off = 1;
+    #5 clk = 1; #5 clk = 0; off = 0;
+    #5 clk = 1; #5 clk = 0; store.close;
+  end
+endmodule
+"""
+
+
+def check_store_reset(checker):
+    """A reset in mid-run ends the trace, and that is said: one word of two is in it."""
+    if not checker.has("a reset at make_store's recorder", "iverilog"):
+        return
+    checker.run("make_store", os.path.join(EXAMPLES, "pass", "map"), "-o", "store.v", "--files", os.path.join(EXAMPLES, "pass", "design.v"))
+    checker.write("reset.v", RESET_BENCH)
+    said, _ = check_replays.run_bench(checker, "icarus", [], "reset.v", "store.v")
+    checker.case("what the store says of a reset", said, "# vidi_store: a reset behind cycle 0, time 25; the trace ends there\n")
+    text = tool_kit.text_of(os.path.join(checker.folder, "reset.hex"))
+    checker.case("the store's text before a reset", text, f"{PASS_HEADER}\n01010105\n0000000001\n")
 
 
 # A stand-in for cocotb, in which the rows of a design's pins come one after the other.
@@ -203,7 +218,7 @@ for row in [(1, 1, 5, 0, 0, 0), (1, 0, 6, 1, 1, 5), (1, 0, 6, 0, 0, 0), (1, 1, 6
 
 
 def check_cocotb(checker):
-    """The monitor of docs/TOOLS.md, with rows made by hand and a stand-in for cocotb: two words go in, and the first comes out while the second waits."""
+    """The monitor of docs/TOOLS.md, with rows made by hand and a stand-in for cocotb: two words go in, the first comes out while the second waits."""
     page = tool_kit.text_of(os.path.join(tool_kit.HERE, "..", "docs", "TOOLS.md"))
     text = re.search(r"```python\n(import cocotb\n.*?)```", page, re.S)[1]
     checker.write("monitor.py", STAND_IN + text + PLAY)
@@ -214,4 +229,4 @@ def check_cocotb(checker):
                  PASS_HEADER + "01010105" + "0103020605" + "010001" + "0000000003")
 
 
-CHECKS = (check_cocotb, check_store, check_stream, check_hex)
+CHECKS = (check_cocotb, check_store, check_store_reset, check_stream, check_hex)

@@ -262,7 +262,8 @@ def check_capture(checker):
             ("an x", "\n1a\n", "\nxa\n", "capture: bad.vcd time 25: a_v is x outside reset"),
             ("a lost port", "$var wire 1 b a_r $end\n", "",
              "capture: bad.vcd: scope bench.dut has no a_r; dump the ports of the design there, or mend the map"),
-            ("a reset again", "#40\n", "#40\n1r\n", "capture: bad.vcd time 45: rst is active again; cut the waves before it with --cycles 3, or begin behind it with --from 2"),
+            ("a reset again", "#40\n", "#40\n1r\n",
+             "capture: bad.vcd time 45: rst is active again; cut the waves before it with --cycles 3, or begin behind it with --from 2"),
             ("single bits", "$var wire 8 c a_d [7:0] $end", "$var wire 1 c a_d [0] $end\n$var wire 1 g a_d [1] $end",
              "capture: bad.vcd: a_d is dumped bit by bit; dump it as a vector"),
             ("no VCD", "$enddefinitions", "$end", "capture: bad.vcd: no VCD: no $enddefinitions")):
@@ -402,7 +403,7 @@ def main():
     for name, missing in checker.skipped.items():
         print(f"skipped for want of {' and '.join(missing)}: {name}")
     print(f"{checker.played} cases of the tools played, {len(checker.wrong)} wrong, {len(checker.skipped)} kinds skipped")
-    sys.exit(1 if checker.wrong else 0)
+    sys.exit(1 if checker.wrong or not checker.played else 0)
 
 
 if __name__ == "__main__":

@@ -100,7 +100,8 @@ def writing(channels):
     yield "      " + " ".join(f"done_{channel.number} = done_{channel.number} + stop_{channel.number};" for channel in channels)
     yield "    end\n  endtask"
     yield f"  always @(posedge clk) begin\n    if (file != 0 && !off && ({some})) packet;"
-    yield "    if (!off) cycle = cycle + 1;\n    else if (packets != 0) close;"
+    yield "    if (!off) cycle = cycle + 1;\n    else if (file != 0 && packets != 0) begin"
+    yield '      $display("# vidi_store: a reset behind cycle %0d, time %0d; the trace ends there", cycle - 1, $time);\n      close;\n    end'
     yield "    " + " ".join(f"fly_{channel.number} <= ~off & v_{channel.number} & ~r_{channel.number};" for channel in channels) + "\n  end"
 
 

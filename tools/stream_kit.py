@@ -29,11 +29,10 @@ def mask_bytes(stem, channels):
 def comment(channels, room):
     """What the text is, and how it is connected."""
     size = beat_bytes(channels)
-    joins = ", ".join(f".start_{channel.number}(start_{channel.number}), .stop_{channel.number}(stop_{channel.number}), .g_{channel.number}(g_{channel.number})"
-                      for channel in channels[:1])
-    yield f"// Behind vidi_record_top of `vidi wrap`, whose gates it gives: vidi_stream stream (.clk(clk), .rst(rst), {joins}, ..);"
-    yield f"// A beat is a packet: {size} bytes, tdata[7:0] first, of which tkeep has those that count. Its FIFO has {room} beats. A trace is these bytes in"
-    yield "// order, then the end mark, which trace_of_hex adds: behind the header, in hexadecimal:"
+    yield "// Behind vidi_record_top of `vidi wrap`, whose gates it gives:"
+    yield "//   vidi_stream stream (.clk(clk), .rst(rst), .start_0(start_0), .stop_0(stop_0), .g_0(g_0), ..);"
+    yield f"// A beat is a packet: {size} bytes, tdata[7:0] first, of which tkeep has those that count. The FIFO has {room} beats. A trace is these"
+    yield "// bytes in order, then the end mark, which trace_of_hex adds: behind the header, in hexadecimal:"
     yield f"//   5649444954524331{header_digits(channels)}"
 
 
@@ -89,8 +88,8 @@ def lines(channels, room):
     size, ports = beat_bytes(channels), ["input clk", "input rst"]
     for channel in channels:
         at = channel.number
-        ports += [f"input start_{at}", f"input stop_{at}"] + [f"input {span(width)}{name}" for name, width in zip(channel.contents("d"), channel.widths)]
-        ports.append(f"output g_{at}")
+        ports += [f"input start_{at}", f"input stop_{at}", f"output g_{at}"]
+        ports += [f"input {span(width)}{name}" for name, width in zip(channel.contents("d"), channel.widths)]
     ports += ["output tvalid", "input tready", f"output [{8 * size - 1}:0] tdata", f"output [{size - 1}:0] tkeep", "output tlast"]
     yield "module vidi_stream (" + ",\n  ".join(ports) + ");"
     yield "  wire push = " + " | ".join(f"start_{channel.number} | stop_{channel.number}" for channel in channels) + ";"

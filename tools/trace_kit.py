@@ -61,7 +61,8 @@ def next_packet(source, trace):
     if kind == 0:
         return False
     if kind != 1:
-        raise Problem(f"packet {len(trace.packets)} is a reset" if (trace.version, kind) == (2, 2) else f"the trace has no packet at byte {source.at - 1}")
+        is_reset = (trace.version, kind) == (2, 2)
+        raise Problem(f"packet {len(trace.packets)} is a reset" if is_reset else f"the trace has no packet at byte {source.at - 1}")
     gap = [source.number(2)] if trace.version == 2 else []
     starts, ends = (int.from_bytes(source.take(size), "little") for _ in range(2))
     started = {channel.name: [source.number((width + 7) // 8) for width in channel.widths]
