@@ -1,10 +1,12 @@
 #!/usr/bin/env python3
 """Plays the cases of the tools: each line that a tool must print was made by hand, or by Icarus on a design as it was found.
 
-    check_tools.py VIDI
+    check_tools.py VIDI [--verilator] [--only NAME]
 
-Without Yosys or Icarus the cases that want them are skipped, with a line that says how many.
+Without Yosys, Icarus or Verilator the cases that want them are skipped, with a line that says how many. With --verilator, which .ci/run doesn't
+give, benches of all examples are played in Verilator; that takes minutes. --only plays the checks whose name has NAME in it.
 """
+import argparse
 import importlib.machinery
 import importlib.util
 import os
@@ -15,6 +17,10 @@ import subprocess
 import sys
 import tempfile
 
+import check_field
+import check_replays
+import check_said
+import check_stores
 import tool_kit
 
 TOOLS = tool_kit.HERE
@@ -50,7 +56,8 @@ REFUSED = [
 class Checker:
     """Counts the cases, and keeps what was wrong."""
 
-    def __init__(self, vidi):
+    def __init__(self, vidi, is_long=False):
+        self.is_long = is_long
         self.vidi, self.played, self.skipped, self.wrong = vidi, 0, {}, []
         self.folder = tempfile.mkdtemp()
 
@@ -184,6 +191,7 @@ def check_same(checker):
         found = example(name, "found.v") if name in FOUND else os.path.join(CASES, f"{name}.v")
         plan = example(name, "map") if name in FOUND else os.path.join(CASES, f"{name}.map")
         said, _ = checker.run("lower", "--scripts", "2", "--cycles", "150", "--prove-same", plan, name, "same.v", found)
+        said = "\n".join(line for line in said.splitlines() if not line.startswith("lower: Yosys warns: "))
         checker.case(f"same transfers of {name}", said.splitlines()[-1:],
                      [line for line in said.splitlines() if SAME.fullmatch(line)] or ["same"])
     checker.write("turned.map", tool_kit.text_of(example("axi_ram", "map")).replace("aresetn 0", "aresetn 1"))
@@ -254,7 +262,8 @@ def check_capture(checker):
             ("an x", "\n1a\n", "\nxa\n", "capture: bad.vcd time 25: a_v is x outside reset"),
             ("a lost port", "$var wire 1 b a_r $end\n", "",
              "capture: bad.vcd: scope bench.dut has no a_r; dump the ports of the design there, or mend the map"),
-            ("a reset again", "#40\n", "#40\n1r\n", "capture: bad.vcd time 45: rst is active again; cut the waves before it with --cycles"),
+            ("a reset again", "#40\n", "#40\n1r\n",
+             "capture: bad.vcd time 45: rst is active again; cut the waves before it with --cycles 3, or begin behind it with --from 2"),
             ("single bits", "$var wire 8 c a_d [7:0] $end", "$var wire 1 c a_d [0] $end\n$var wire 1 g a_d [1] $end",
              "capture: bad.vcd: a_d is dumped bit by bit; dump it as a vector"),
             ("no VCD", "$enddefinitions", "$end", "capture: bad.vcd: no VCD: no $enddefinitions")):
@@ -280,7 +289,7 @@ def check_capture_range(checker):
     for name, valid, note in (("a valid", "1a", "capture: cycles before the reset, 2 of them, are left out\n"), ("no valid", "0a", "")):
         checker.write("early.vcd", waves.replace("#0\n0!\n1r\n", early.replace("1a", valid)))
         said = checker.run("capture", "early.vcd", "bench.dut", "two_words.map")
-        lines = tool_kit.text_of(os.path.join(CASES, "two_words.script")).replace("capture: ", note + "capture: ")
+        lines = tool_kit.text_of(os.path.join(CASES, "two_words.script")).replace("capture: ", note + "capture: ", 1)
         checker.case(f"capture of {name} before the reset", said, (lines, 0))
     for cycles in ("-1", "0", "50001"):
         checker.refused(f"capture of {cycles} cycles", ["capture", "two_words.vcd", "bench.dut", "two_words.map", "-o", "out", "--cycles", cycles],
@@ -375,12 +384,18 @@ def check_quick_build(checker):
 
 def main():
     """Plays all cases."""
-    if len(sys.argv) != 2 or not os.access(sys.argv[1], os.X_OK):
+    parser = argparse.ArgumentParser(description=__doc__, formatter_class=argparse.RawDescriptionHelpFormatter)
+    parser.add_argument("vidi", metavar="VIDI", help="the program")
+    parser.add_argument("--verilator", action="store_true", help="play benches of all examples in Verilator")
+    parser.add_argument("--only", default="", metavar="NAME", help="the checks whose name has this in it")
+    options = tool_kit.parse_options(parser)
+    if not os.access(options.vidi, os.X_OK):
         sys.exit("check_tools.py: wants the program vidi")
-    checker = Checker(os.path.abspath(sys.argv[1]))
+    checker = Checker(os.path.abspath(options.vidi), options.verilator)
+    checks = (check_left_out, check_lower, check_words, check_same, check_make_map, check_capture, check_capture_range, check_benches, check_show,
+              check_explain, check_quick_build, *check_field.CHECKS, *check_replays.CHECKS, *check_said.CHECKS, *check_stores.CHECKS)
     try:
-        for check in (check_left_out, check_lower, check_words, check_same, check_make_map, check_capture, check_capture_range,
-                      check_benches, check_show, check_explain, check_quick_build):
+        for check in (check for check in checks if options.only in check.__name__):
             check(checker)
     finally:
         shutil.rmtree(checker.folder)
@@ -388,7 +403,7 @@ def main():
     for name, missing in checker.skipped.items():
         print(f"skipped for want of {' and '.join(missing)}: {name}")
     print(f"{checker.played} cases of the tools played, {len(checker.wrong)} wrong, {len(checker.skipped)} kinds skipped")
-    sys.exit(1 if checker.wrong else 0)
+    sys.exit(1 if checker.wrong or not checker.played else 0)
 
 
 if __name__ == "__main__":

@@ -6,7 +6,7 @@
 A command is a line `$ ..` of a block fenced by ```console, with lines `> ..` behind it where it goes on; the lines below are what it
 prints, on both outputs. Blocks fenced by ```sh aren't played: they get the program. --fill writes what the commands print into the page,
 for who writes it. Of a page that calls `lower` the counts of `vidi check` aren't compared, as other versions of Yosys lower to other ones,
-and it is skipped without Yosys. Without Icarus each page is skipped. A line says so.
+and it is skipped without Yosys. Without Icarus each page is skipped. Without Verilator the blocks that call it aren't played. A line says so.
 """
 import os
 import re
@@ -42,9 +42,16 @@ def is_lowering(page):
     return any(re.search(r"(?:^|[;&|(])\s*lower\s", command) for command in commands)
 
 
+def is_left_out(block):
+    """Whether a block calls Verilator and it isn't installed."""
+    return re.search(r"^\$ verilator ", block, re.M) and not all(shutil.which(program) for program in ("verilator", "g++", "make"))
+
+
 def played(page, vidi):
     """The page with what its commands print, how many there are, and what was wrong."""
     wrong, count, compared = [], 0, counted if is_lowering(page) else str
+    if any(map(is_left_out, BLOCK.findall(page))):
+        print("skipped for want of verilator, g++ or make: the blocks that call Verilator")
     with tempfile.TemporaryDirectory() as folder:
         def play(match):
             """The command with what it prints."""
@@ -54,7 +61,7 @@ def played(page, vidi):
             if compared(said) != compared(match[2]):
                 wrong.append(f"$ {match[1].splitlines()[0]}: the page says {match[2]!r}, it prints {said!r}")
             return f"$ {match[1]}{said}"
-        text = BLOCK.sub(lambda block: COMMAND.sub(play, block[0]), page)
+        text = BLOCK.sub(lambda block: block[0] if is_left_out(block[0]) else COMMAND.sub(play, block[0]), page)
     return text, count, wrong
 
 

@@ -1,4 +1,5 @@
 """What the tools beside this file share: errors of one line, maps, waves, the lines of a run, traces, and the other programs."""
+import argparse
 import json
 import os
 import re
@@ -9,7 +10,8 @@ import tempfile
 
 HERE = os.path.dirname(os.path.abspath(__file__))
 EXAMPLES = os.path.join(HERE, "..", "examples")
-PACKAGES = {"yosys": "yosys", "iverilog": "iverilog", "vvp": "iverilog"}
+PACKAGES = {"yosys": "yosys", "iverilog": "iverilog", "vvp": "iverilog", "verilator": "verilator"}
+WARNING = re.compile(r"^(?:(/.*?):(\d+): )?Warning: (.*)$", re.M)
 
 
 class Problem(Exception):
@@ -155,6 +157,13 @@ def yosys(commands, folder):
     return done.stdout + done.stderr
 
 
+def warnings_of(said):
+    """The warnings in what Yosys said, each once, in order: (place or nothing, words)."""
+    found = ((f"{os.path.relpath(path)} line {line}: " if path else "", words.replace("`\\", "`").replace("\\", ""))
+             for path, line, words in WARNING.findall(said))
+    return list(dict.fromkeys(found))
+
+
 def quoted(path):
     """A path as a word of a Yosys command."""
     if '"' in path or "\n" in path:
@@ -167,7 +176,7 @@ def reading(top, files, defines=(), params=(), is_sv=False, memories="-nomem2reg
     flags = "".join(f" -D{define}" for define in defines) + (" -sv" if is_sv else "")
     values = "".join(f" -chparam {name} {value}" for name, value in params)
     reads = [f"read_verilog {memories}{flags} {quoted(path)}" for path in files]
-    return reads + [f"hierarchy -check -top {top}{values}", "rename -top " + top, "proc", "flatten", "tribuf", "memory_collect"]
+    return reads + [f"hierarchy -check -top {top}{values}", "rename -top " + top, "proc -norom", "flatten", "tribuf", "memory_collect"]
 
 
 def read(commands_of, folder):
@@ -197,11 +206,11 @@ def elaborated(top, files, defines=(), params=(), is_sv=False):
 
 
 def events_of(text, where):
-    """The lines of a run or a dump: the events (time, kind, channel, numbers), the widths of the channels if they are said, how many
+    """The lines of a run, a dump or a bench: the events (time, kind, channel, numbers), the widths of the channels if they are said, how many
     cycles or packets there were, and the line that ends a run early, if there is one."""
     events, widths, length, ending = [], {}, None, None
     for line, words in enumerate((text.split() for text in text.split("\n")), 1):
-        if not words or words[0] == "recorded":
+        if not words or words[0] in ("recorded", "VCD", "-") or words[0].startswith("#"):  # what a simulator says beside a bench's lines
             continue
         if words[0] == "channel" and len(words) >= 4:
             widths[words[3]] = (words[2], [int(word) for word in words[4:]])
@@ -212,7 +221,7 @@ def events_of(text, where):
             length = int(words[1])
         elif words[0] == "vidi:":
             ending = " ".join(words)
-            length = int(words[-1]) if words[1:2] == ["unstable"] else length
+            length = int(words[-1]) if words[1:2] == ["unstable"] and length is None else length
         else:
             raise Problem(f"{where} line {line}: no line of vidi run or vidi dump: {' '.join(words)[:60]}")
     if length is None:
@@ -227,6 +236,11 @@ class Transaction:
         self.start, self.end, self.content = start, None, content
 
 
+def lines_of_row(cycle, started, ended):
+    """The lines of `vidi run` of a row: its starts with contents by name, and the names of those that end."""
+    return [" ".join(map(str, (cycle, "start", name, *content))) for name, content in started.items()] + [f"{cycle} end {name}" for name in ended]
+
+
 def transactions_of(events):
     """For each channel its transactions, in order."""
     found = {}
@@ -238,6 +252,25 @@ def transactions_of(events):
         else:
             raise Problem(f"{name} ends at {time} and hasn't started")
     return found
+
+
+def name_and_value(word):
+    """The two sides of NAME=VALUE."""
+    name, equals, value = word.partition("=")
+    if not equals or not name:
+        raise argparse.ArgumentTypeError(f"{word} isn't NAME=VALUE")
+    return name, value
+
+
+def add_verbose(parser):
+    """The word that has a tool say what it is at, as it does on a terminal."""
+    parser.add_argument("-v", "--verbose", action="store_true", default=sys.stderr.isatty(), help="say on standard error what it is at")
+
+
+def at_work(options, line):
+    """Says what a tool is at, where that is wanted."""
+    if options.verbose:
+        print(f"{os.path.basename(sys.argv[0])}: {line} ..", file=sys.stderr, flush=True)
 
 
 def parse_options(parser):
