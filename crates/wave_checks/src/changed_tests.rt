@@ -51,13 +51,17 @@ fn is_refused_changed(alloc: Global, at: usize, place: usize) -> bool {
     ends_refused(alloc, page)
 }
 
+/// Whether a line of `FLICK` tells a number that changed, so that without it the text is another wave's.
+fn tells_a_change(line: &str) -> bool {
+    line == "1\"" || line == "1$"
+}
+
 #[test]
 fn each_line_counts(rt: HostRuntime) {
     let mut refused = true;
-    for (at, _line) in FLICK.lines().enumerate() {
-        refused = refused
-            && is_refused_with(rt.alloc(), at, 0)
-            && is_refused_with(rt.alloc(), at, 2);
+    for (at, line) in FLICK.lines().enumerate() {
+        let left_out = is_refused_with(rt.alloc(), at, 0);
+        refused = refused && left_out != tells_a_change(line) && is_refused_with(rt.alloc(), at, 2);
     }
     assert!(rt; refused);
 }
