@@ -52,7 +52,7 @@ said words files F S W V old new left status text result earned (inl (same, told
     subst (λ (s : Status). Answers (Earns words files F) S W V old new left s) (sym same)
     (answered (Earns words files F) S W V old new left status text earned other told)
 said words files F S W V old new left status text result earned (inr (fault, failed, some)) =
-    subst (λ (s : Status). Answers (Earns words files F) S W V old new left s) (sym fault) (inl (failed, status, text, earned, some))
+    subst (λ (s : Status). Answers (Earns words files F) S W V old new left s) (sym fault) (inl (failed, (status, text, earned, some)))
 
 quiet_does : (c : Command) (files : Option Files) (F : List ℕ → Type 0) (status : Status) (text : List ℕ) (left : Option Files)
     → ((name : List ℕ) → ¬ F name) → Does c files F status text left → Does c files (λ _. ⊥) status text left
@@ -87,7 +87,7 @@ quietly words files F S W V old new left Usage quiet kept heard (text, e, told) 
 quietly words files F S W V old new left (ReadFault word) quiet kept heard (text, e, told)
     = (text, quiet_earns words files F (ReadFault word) text left quiet e, told)
 quietly words files F S W V old new left WriteFault quiet kept heard (inl (failed, _)) = absurd (heard failed)
-quietly words files F S W V old new left WriteFault quiet kept heard (inr (failed, _)) = absurd (kept failed)
+quietly words files F S W V old new left WriteFault quiet kept heard (inr (failed, _, _)) = absurd (kept failed)
 quietly words files F S W V old new left (Refused word reason) quiet kept heard (text, e, told)
     = (text, quiet_earns words files F (Refused word reason) text left quiet e, told)
 quietly words files F S W V old new left (Unstable channel cycle) quiet kept heard (text, e, told)
