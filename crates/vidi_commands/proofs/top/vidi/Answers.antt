@@ -19,7 +19,7 @@ pub returns-in-Err-Memory-clause-answers : goal.returns-in-Err-Memory-clause-ans
 returns-in-Err-Memory-clause-answers g c =
     let kept = rw c.in-Err-Memory.field-0-is at c.in-Err-Memory.ensures.owed in
     said _ _ _ (Stops c.args.words.now (g.S.Shelf.files c.args.shelf.now) _) _ _ _ _ _ _ _ c.say_memory.result
-    (inr (inl ((refl, refl), kept))) (λ failed. inr failed) c.say_memory.ensures.said
+    (inr (inl ((refl, refl), kept))) c.say_memory.ensures.said
 
 pub returns-in-Ok-clause-complete : goal.returns-in-Ok-clause-complete
 returns-in-Ok-clause-complete g c = λ reads writes pushes.
