@@ -4,8 +4,8 @@ use Rattle.std.proofs.Common.{◌∙◌, min, arith}
 use Rattle.std.specs.Int.{bit_at}
 use Rattle.std.proofs.lemmas.Bool.{cases_lt, eqb-true, eq-eqb, not-true}
 use Rattle.std.proofs.lemmas.Nat.Bits.{bit_at_and, bit_at-lt, bit_at-zero, bit_at_above}
-use Rattle.net_design.proofs.vidi_bits_lemmas.BitLemmas.{fits_by_bits}
-use Rattle.net_design.specs.vidi_bits.Number.{has}
+use Rattle.vidi_bits.proofs.BitLemmas.{fits_by_bits}
+use Rattle.vidi_bits.specs.Number.{has}
 use Rattle.net_order.specs.Index.{meets}
 
 below_power : (n : ℕ) → n < 2 ^ n

@@ -2,7 +2,7 @@
 use Rattle.std.proofs.Common.{◌≡◌, ◌≢◌, ℕ, zero, suc, ◌<◌, ◌≤◌, List, [], ◌∷◌, length, slice_index, map, take, replicate, refl, ap, sym}
 use Rattle.std.proofs.Common.{subst, ◌∙◌, arith}
 use Rattle.std.specs.List.{Contains}
-use Rattle.net_design.proofs.vidi_bits_lemmas.Lists.{none_in}
+use Rattle.vidi_bits.proofs.Lists.{none_in}
 use Rattle.net_design.specs.Names.{list_at}
 use Rattle.net_order.specs.declared.search.Mark.{Mark}
 use Rattle.net_order.specs.declared.search.Mark.TheVariants.{Fresh, Open, Done}

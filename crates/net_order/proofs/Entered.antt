@@ -2,7 +2,7 @@
 use Rattle.std.proofs.Common.{◌≡◌, ℕ, zero, suc, ◌+◌, ◌^◌, ◌<◌, ◌≤◌, Bool, true, false, Option, Some, List, [], ◌∷◌, length}
 use Rattle.std.proofs.Common.{if◌then◌else◌, drop, map, slice_get, slice_index, refl, ap, ◌∙◌, arith}
 use Rattle.std.specs.List.{enumerate_from}
-use Rattle.net_design.proofs.vidi_bits_lemmas.Lists.{some_same}
+use Rattle.vidi_bits.proofs.Lists.{some_same}
 use Rattle.net_design.specs.declared.design.Port.{Port}
 use Rattle.net_design.specs.declared.design.Direction.TheVariants.{Input}
 use Rattle.net_design.specs.Settled.{pins_of}

@@ -4,11 +4,11 @@ use Rattle.std.proofs.Common.{Result, Ok, Err, IfOk, IfErr, ⊎_elim, refl, ap, 
 use Rattle.std.specs.List.{Contains}
 use Rattle.std.proofs.lemmas.Bool.{cases_lt, eqb-true, eq-eqb, and_parts, and_from}
 use Rattle.std.proofs.lemmas.List.Folds.{Any-from_list_any, list_any_at}
-use Rattle.net_design.proofs.vidi_bits_lemmas.Lists.{none_in}
+use Rattle.vidi_bits.proofs.Lists.{none_in}
 use Rattle.net_design.specs.declared.act.Mask.{Mask}
 use Rattle.net_design.specs.declared.design.Driver.{Driver}
 use Rattle.net_design.specs.declared.design.Design.{Design}
-use Rattle.net_design.specs.vidi_bits.Number.{has}
+use Rattle.vidi_bits.specs.Number.{has}
 use Rattle.net_design.specs.Bits.{named}
 use Rattle.net_design.specs.Names.{list_at}
 use Rattle.net_design.specs.Lawful.{IsLawful}

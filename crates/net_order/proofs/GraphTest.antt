@@ -3,7 +3,7 @@ use Rattle.std.proofs.Common.{ℕ, zero, suc, ◌<◌, List, [], ◌∷◌}
 use Rattle.std.specs.Prelude.{All}
 use Rattle.std.specs.List.{Contains, AllByRecursion}
 use Rattle.std.proofs.lemmas.List.Elements.{All-contains, recursion_from_All}
-use Rattle.net_design.proofs.vidi_bits_lemmas.Lists.{none_in}
+use Rattle.vidi_bits.proofs.Lists.{none_in}
 use Rattle.net_design.specs.Names.{list_at}
 
 -- each number of each list is below the limit

@@ -7,7 +7,7 @@ use Rattle.std.proofs.lemmas.Bool.{cases_lt, or_from, false_from_ne_true, or_par
 use Rattle.std.proofs.lemmas.List.{ext_get_or}
 use Rattle.std.proofs.lemmas.List.Folds.{list_any-append}
 use Rattle.std.proofs.lemmas.Nat.Bits.{bit_at_above, same_from_bits}
-use Rattle.net_design.proofs.vidi_bits_lemmas.BitLemmas.{fits_by_bits}
+use Rattle.vidi_bits.proofs.BitLemmas.{fits_by_bits}
 use Rattle.net_design.specs.declared.act.Place.{Place}
 use Rattle.net_design.specs.declared.act.Place.TheVariants.{Bits, BitsFrom, Word, WordFrom}
 use Rattle.net_design.specs.declared.act.Act.{Act, Set, Read, Branch', Row_of-Act, end_of-Act, more_of-Act, Row_of-Guard, end_of-Guard}

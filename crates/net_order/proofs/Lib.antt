@@ -16,4 +16,4 @@ pub mod Settling
 pub mod Entered
 pub mod OneMap
 pub mod Known
-pub use Rattle.net_design.proofs.vidi_bits_lemmas as vidi_bits_lemmas
+pub use Rattle.vidi_bits.proofs as vidi_bits_lemmas

@@ -7,7 +7,7 @@ use Rattle.std.proofs.lemmas.List.{get_or-set_same, get_or-set_other, get_or_app
 use Rattle.std.proofs.lemmas.List.Elements.{Contains-append_cases, Contains-append_left, Contains-append_right}
 use Rattle.std.proofs.lemmas.List.Sums.{sum_by-set}
 use Rattle.std.proofs.Math.Seq.{get_or-append_seam}
-use Rattle.net_design.proofs.vidi_bits_lemmas.Lists.{head_in}
+use Rattle.vidi_bits.proofs.Lists.{head_in}
 use Rattle.net_design.specs.Names.{list_at}
 use Rattle.net_order.specs.declared.search.Mark.{Mark}
 use Rattle.net_order.specs.declared.search.Mark.TheVariants.{Fresh, Open, Done}

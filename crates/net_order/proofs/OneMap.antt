@@ -8,7 +8,7 @@ use Rattle.std.proofs.lemmas.List.Folds.{Any-from_list_any}
 use Rattle.std.proofs.lemmas.Nat.{pow_pos}
 use Rattle.std.proofs.lemmas.Nat.Bits.{bit_at_above, same_from_bits}
 use Rattle.net_order.proofs.GraphLaws.{writer_within}
-use Rattle.net_design.proofs.vidi_bits_lemmas.Bools.{or_none, not_both}
+use Rattle.vidi_bits.proofs.Bools.{or_none, not_both}
 use Rattle.net_design.specs.declared.act.Act.{Act}
 use Rattle.net_design.specs.declared.design.Net.{Net}
 use Rattle.net_design.specs.declared.design.Port.{Port}

@@ -10,7 +10,7 @@ use Rattle.std.proofs.lemmas.List.{get_or_past, get_or-set_same}
 use Rattle.std.proofs.lemmas.List.Folds.{list_any-append}
 use Rattle.std.proofs.lemmas.Nat.{pow_pos, mod_below}
 use Rattle.std.proofs.lemmas.Nat.Bits.{same_from_bits_below, bit_at_above}
-use Rattle.net_design.proofs.vidi_bits_lemmas.BitLemmas.{bit_at-part, bit_at-put_inside}
+use Rattle.vidi_bits.proofs.BitLemmas.{bit_at-part, bit_at-put_inside}
 use Rattle.net_design.specs.declared.rhs.Span.{Span}
 use Rattle.net_design.specs.declared.rhs.Rhs.{Rhs, Number, Bits, Word', Unary', Binary', Choose', Join', Repeat', Select'}
 use Rattle.net_design.specs.declared.act.Place.{Place}
@@ -22,8 +22,8 @@ use Rattle.net_design.specs.declared.values.Target.{Target}
 use Rattle.net_design.specs.declared.values.Target.TheVariants.{Net, Word as WordTarget}
 use Rattle.net_design.specs.declared.values.Update.{Update}
 use Rattle.net_design.specs.declared.values.Values.{Values}
-use Rattle.net_design.specs.vidi_bits.Number.{part_of, put_of, repeated}
-use Rattle.net_design.specs.vidi_bits.Operators.{unary_number, binary_number}
+use Rattle.vidi_bits.specs.Number.{part_of, put_of, repeated}
+use Rattle.vidi_bits.specs.Operators.{unary_number, binary_number}
 use Rattle.net_design.specs.Value.{word_at, value}
 use Rattle.net_design.specs.Updates.{written_to, apply, update, bit_updates, part_updates, word_updates, place_updates, target_width}
 use Rattle.net_design.specs.Updates.{target_updates, updates, guard_row, act_row, block_updates, run}

@@ -5,8 +5,8 @@ use Rattle.std.specs.List.{list_any, count_by, Contains}
 use Rattle.std.proofs.lemmas.Bool.{ltb-true, lt-ltb, not-true, or_cases, or_right, false_from_ne_true, or_parts, cases_Bool, or_left}
 use Rattle.std.proofs.lemmas.List.Folds.{Any-from_list_any, list_any_at, list_any-append}
 use Rattle.std.proofs.lemmas.List.Sums.{sum_by-cons}
-use Rattle.net_design.proofs.vidi_bits_lemmas.Bools.{not_both, or_none}
-use Rattle.net_design.proofs.vidi_bits_lemmas.Lists.{head_in, tail_in, cases_in, none_in}
+use Rattle.vidi_bits.proofs.Bools.{not_both, or_none}
+use Rattle.vidi_bits.proofs.Lists.{head_in, tail_in, cases_in, none_in}
 use Rattle.net_design.specs.declared.act.Act.{Act}
 use Rattle.net_design.specs.declared.design.Driver.{Driver}
 use Rattle.net_design.specs.declared.design.Design.{Design}

@@ -3,7 +3,7 @@ use Rattle.std.proofs.Common.{◌≡◌, ◌≢◌, ℕ, zero, suc, ◌+◌, ◌
 use Rattle.std.proofs.Common.{subst, ◌∙◌, arith}
 use Rattle.std.specs.List.{Contains}
 use Rattle.std.proofs.lemmas.List.Elements.{Contains-append_cases}
-use Rattle.net_design.proofs.vidi_bits_lemmas.Lists.{head_in, tail_in, none_in, cases_in}
+use Rattle.vidi_bits.proofs.Lists.{head_in, tail_in, none_in, cases_in}
 use Rattle.net_order.specs.Order.{Chain, Once, IsLoopBy, last_of}
 use Rattle.net_order.specs.Turn.{down, IsTurned}
 

@@ -5,10 +5,10 @@ use Rattle.std.specs.List.{list_any}
 use Rattle.std.proofs.lemmas.Bool.{eqb-true, eq-eqb, ne_eqb}
 use Rattle.std.proofs.lemmas.List.{take_more}
 use Rattle.std.proofs.lemmas.List.Folds.{list_any-append}
-use Rattle.net_design.proofs.vidi_bits_lemmas.Bools.{same_test, or_none}
+use Rattle.vidi_bits.proofs.Bools.{same_test, or_none}
 use Rattle.net_design.specs.declared.act.Mask.{Mask}
 use Rattle.net_design.specs.declared.design.Driver.{Driver}
-use Rattle.net_design.specs.vidi_bits.Number.{has}
+use Rattle.vidi_bits.specs.Number.{has}
 use Rattle.net_design.specs.Bits.{named}
 use Rattle.net_design.specs.Names.{list_at}
 use Rattle.net_design.proofs.UpdateLaws.{from_here}

@@ -3,7 +3,7 @@ use Rattle.std.specs.Prelude.{◌≡◌, ℕ, ◌==◌, ◌&&◌, not, Bool, Lis
 use Rattle.std.specs.List.{list_any, AllZip}
 use Rattle.net_design.specs.declared.act.Mask.{Mask}
 use Rattle.net_design.specs.declared.design.Driver.{Driver}
-use Rattle.net_design.specs.vidi_bits.Number.{has}
+use Rattle.vidi_bits.specs.Number.{has}
 use Rattle.net_design.specs.Names.{list_at}
 use Rattle.net_order.specs.declared.writers.Writer.{Writer}
 use Rattle.net_order.specs.Graph.{Graph}

@@ -6,4 +6,4 @@ pub mod Steps
 pub mod Index
 pub mod Reading
 pub mod Run
-pub use Rattle.net_design.specs.vidi_bits as vidi_bits
+pub use Rattle.vidi_bits.specs as vidi_bits

@@ -2,8 +2,8 @@
 
 ghost use Rattle.std.specs.Prelude.{◌≡◌};
 
-use net_design::vidi_bits::{Memory, Numbers};
 use std::alloc::{AllocError, AllocFailed};
+use vidi_bits::{Memory, Numbers};
 
 /// An order of drivers: the number of each, once, after those whose bits it reads.
 #[derive(Drop)]

@@ -11,9 +11,9 @@ ghost use Rattle.net_order.specs.Steps.{IsLoopError};
 use crate::answer::{Order, OrderError};
 use crate::search::sorted;
 use crate::writers::{Writer, writers_of};
-use net_design::vidi_bits::{Items, Memory, Numbers};
 use net_design::{Design, Driver, Mask};
 use std::alloc::Global;
+use vidi_bits::{Items, Memory, Numbers};
 
 /// Adds a writer where it writes some of the bits.
 #[tactic(auto, using(crate::proofs::RowLaws::row_more, crate::proofs::RowLaws::row_stays))]

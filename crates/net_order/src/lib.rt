@@ -15,5 +15,5 @@ mod writers;
 pub use answer::{Order, OrderError};
 pub use graph::order;
 pub use laws::{one_settled_map, order_or_loop};
-pub use net_design::vidi_bits;
 pub use search::sorted;
+pub use vidi_bits;

@@ -10,8 +10,8 @@ ghost use Rattle.net_order.specs.Steps.{IsSearch, IsStep, IsLoopError};
 
 use crate::answer::OrderError;
 use crate::turn::turned;
-use net_design::vidi_bits::{Items, Memory, Numbers};
 use std::alloc::Global;
+use vidi_bits::{Items, Memory, Numbers};
 
 /// How far a driver is.
 #[derive(Clone, Copy, PartialEq, Eq)]

@@ -4,8 +4,8 @@ ghost use Rattle.std.specs.Prelude.{◌≡◌, ℕ, ◌+◌, ◌-◌, ◌<◌, �
 ghost use Rattle.std.specs.List.{Contains};
 ghost use Rattle.net_order.specs.Turn.{down, IsTurned};
 
-use net_design::vidi_bits::{Items, Memory, Numbers};
 use std::alloc::Global;
+use vidi_bits::{Items, Memory, Numbers};
 
 /// The place of a number that is on the path.
 fn place_of(path: &[usize], number: usize) -> usize

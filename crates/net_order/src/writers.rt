@@ -1,15 +1,15 @@
 //! The drivers that write bits of each net.
 
 ghost use Rattle.std.specs.Prelude.{◌≡◌, ℕ, ◌<◌, ◌==◌, ◌&&◌, ◌||◌, [], OnOk, IfOk, length};
-ghost use Rattle.net_design.specs.vidi_bits.Number.{has};
+ghost use Rattle.vidi_bits.specs.Number.{has};
 ghost use Rattle.net_design.specs.Names.{list_at};
 ghost use Rattle.net_design.specs.Bits.{named};
 ghost use Rattle.net_order.specs.Index.{listed};
 ghost use Rattle.net_order.specs.Reading.{AreWriters};
 
-use net_design::vidi_bits::{Items, Memory};
 use net_design::{Design, Mask};
 use std::alloc::Global;
+use vidi_bits::{Items, Memory};
 
 /// A driver that writes bits of a net.
 #[derive(Clone, Copy)]

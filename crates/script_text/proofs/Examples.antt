@@ -1,7 +1,7 @@
 -- The definitions on worked plans and texts, found by hand.
 use Rattle.std.specs.Prelude.{◌≡◌, ℕ, List, [], ◌∷◌, ◌++◌, map, codes, Option, Some, None, refl}
-use Rattle.chan_map.specs.trace_model.declared.channel.Channel.{Channel}
-use Rattle.chan_map.proofs.trace_model_lemmas.Examples.{pass}
+use Rattle.trace_model.specs.declared.channel.Channel.{Channel}
+use Rattle.trace_model.proofs.Examples.{pass}
 use Rattle.chan_map.specs.vidi_lines.Lines.{file_lines, is_bad, words_between}
 use Rattle.script_text.specs.declared.error.ScriptError.{ScriptError}
 use Rattle.script_text.specs.declared.error.ScriptError.TheVariants as E

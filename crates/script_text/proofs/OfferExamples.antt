@@ -1,6 +1,6 @@
 -- *Script offer* on worked examples: what is offered in each cycle, found by hand.
 use Rattle.std.specs.Prelude.{◌≡◌, ℕ, ◌+◌, true, false, List, [], ◌∷◌, map, take, refl}
-use Rattle.chan_map.specs.trace_model.declared.row.Row.{Row}
+use Rattle.trace_model.specs.declared.row.Row.{Row}
 use Rattle.script_text.specs.declared.script.Step.{Step}
 use Rattle.script_text.specs.declared.script.Step.TheVariants.{Send, Take, TakeAll, Wait, After}
 use Rattle.script_text.specs.declared.script.Script.{Script}

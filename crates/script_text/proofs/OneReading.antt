@@ -6,7 +6,7 @@ use Rattle.std.specs.List.{prefix_len}
 use Rattle.chan_map.proofs.vidi_bits_lemmas.Lists.{some_same}
 use Rattle.chan_map.specs.vidi_bits.Findings.{first}
 use Rattle.chan_map.specs.vidi_lines.declared.lines.Line.{Line as LineOf}
-use Rattle.chan_map.specs.trace_model.declared.channel.Channel.{Channel as ChannelOf}
+use Rattle.trace_model.specs.declared.channel.Channel.{Channel as ChannelOf}
 use Rattle.script_text.specs.declared.error.ScriptError.{ScriptError}
 use Rattle.script_text.specs.declared.error.ScriptError.TheVariants.{Line, Channel, Number, Memory}
 use Rattle.script_text.specs.declared.error.StallError.{StallError}

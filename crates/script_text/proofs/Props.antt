@@ -1,8 +1,8 @@
 -- That a step fits a channel has one proof at most.
 use Rattle.std.proofs.Common.{List, []}
 use Rattle.std.proofs.Props.{props}
-use Rattle.chan_map.proofs.trace_model_lemmas.ContentsLemmas.{fit_prop}
-use Rattle.chan_map.specs.trace_model.declared.channel.Channel.{Channel}
+use Rattle.trace_model.proofs.ContentsLemmas.{fit_prop}
+use Rattle.trace_model.specs.declared.channel.Channel.{Channel}
 use Rattle.script_text.specs.declared.script.Step.{Step}
 use Rattle.script_text.specs.declared.script.Step.TheVariants.{Send, Take, TakeAll, Wait, After}
 use Rattle.script_text.specs.Fits.{StepFits}

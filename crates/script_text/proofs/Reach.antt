@@ -3,7 +3,7 @@ use Rattle.std.proofs.Common.{◌≡◌, ℕ, zero, suc, ◌+◌, ◌-◌, ◌<�
 use Rattle.std.proofs.Common.{refl, sym, ap, ◌∙◌, arith, inl, inr, length-append}
 use Rattle.std.specs.Prelude.{slice_get, is_some}
 use Rattle.std.proofs.lemmas.Bool.{cases_lt}
-use Rattle.chan_map.specs.trace_model.declared.row.Row.{Row}
+use Rattle.trace_model.specs.declared.row.Row.{Row}
 use Rattle.script_text.specs.declared.script.Step.{Step}
 use Rattle.script_text.specs.ScriptOffer.{is_over, reach_next, reach, last_reached}
 use Rattle.script_text.proofs.Counting.{first_is, first_hit, over_front}

@@ -6,9 +6,9 @@ use Rattle.std.proofs.lemmas.Bool.{cases_lt, lt-leb}
 use Rattle.std.proofs.lemmas.List.{take_more}
 use Rattle.std.proofs.lemmas.List.Sums.{sum_by-append}
 use Rattle.std.proofs.lemmas.Option.{slice_get_cases, slice_get_within, slice_get_past, get_or_from_slice_get}
-use Rattle.chan_map.proofs.trace_model_lemmas.RowLaws.{flag}
-use Rattle.chan_map.specs.trace_model.declared.row.Row.{Row}
-use Rattle.chan_map.specs.trace_model.Row.{completes}
+use Rattle.trace_model.proofs.RowLaws.{flag}
+use Rattle.trace_model.specs.declared.row.Row.{Row}
+use Rattle.trace_model.specs.Row.{completes}
 use Rattle.script_text.specs.declared.script.Step.{Step}
 use Rattle.script_text.specs.declared.script.Step.TheVariants.{Send, Take, TakeAll, Wait, After}
 use Rattle.script_text.specs.ScriptOffer.{completions, is_over, first_cycle, reach_next, reach, last_reached}

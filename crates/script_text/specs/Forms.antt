@@ -2,7 +2,7 @@
 use Rattle.std.specs.Prelude.{ℕ, ◌+◌, if◌then◌else◌, List, [], ◌∷◌, Option, Some, None, codes}
 use Rattle.std.specs.Str.{bytes_eq}
 use Rattle.std.specs.Option.{option_map}
-use Rattle.chan_map.specs.trace_model.declared.channel.Channel.{Channel}
+use Rattle.trace_model.specs.declared.channel.Channel.{Channel}
 use Rattle.chan_map.specs.vidi_lines.Number.{number_of}
 use Rattle.script_text.specs.declared.forms.Keyword.{Keyword}
 use Rattle.script_text.specs.declared.forms.Keyword.TheVariants as K

@@ -1,7 +1,7 @@
 -- *Script offer*, sentence by sentence: when each step is reached, and which one decides (this project's profile).
 use Rattle.std.specs.Prelude.{◌≡◌, ℕ, suc, ◌+◌, ◌<◌, ◌≤◌, ◌↔◌, true, List, Some, None, length, slice_get}
-use Rattle.chan_map.specs.trace_model.declared.row.Row.{Row}
-use Rattle.chan_map.specs.trace_model.Row.{completes}
+use Rattle.trace_model.specs.declared.row.Row.{Row}
+use Rattle.trace_model.specs.Row.{completes}
 use Rattle.script_text.specs.declared.script.Step.{Step}
 use Rattle.script_text.specs.declared.script.Step.TheVariants.{Send, Take, TakeAll, Wait, After}
 use Rattle.script_text.specs.ScriptOffer.{completions, reach, last_reached}

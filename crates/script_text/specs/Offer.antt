@@ -1,11 +1,11 @@
 -- What an environment offers on a channel in a cycle, and rows that carry it (AMBA AXI4 IHI 0022, A3.2.1).
 use Rattle.std.specs.Prelude.{◌≡◌, ℕ, Bool, true, false, List, [], Some, slice_get, slice_index}
 use Rattle.chan_map.specs.vidi_bits.Number.{has}
-use Rattle.chan_map.specs.trace_model.declared.channel.Channel.{Channel}
-use Rattle.chan_map.specs.trace_model.declared.channel.Dir.TheVariants.{Inward, Outward}
-use Rattle.chan_map.specs.trace_model.declared.row.Row.{Row}
-use Rattle.chan_map.specs.trace_model.Packet.{Fit}
-use Rattle.chan_map.specs.trace_model.Row.{content_at, completes}
+use Rattle.trace_model.specs.declared.channel.Channel.{Channel}
+use Rattle.trace_model.specs.declared.channel.Dir.TheVariants.{Inward, Outward}
+use Rattle.trace_model.specs.declared.row.Row.{Row}
+use Rattle.trace_model.specs.Packet.{Fit}
+use Rattle.trace_model.specs.Row.{content_at, completes}
 
 -- a valid with its content, one number for each port, or a ready; a port without a number has 0
 pub record Offer : Type 0 where

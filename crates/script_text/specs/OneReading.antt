@@ -1,7 +1,7 @@
 -- Of a script and of a plan of stalls there is one answer, unless memory was wanting.
 use Rattle.std.specs.Prelude.{◌≡◌, ℕ, List, Option}
 use Rattle.chan_map.specs.vidi_bits.Agree.{OneAnswer}
-use Rattle.chan_map.specs.trace_model.declared.channel.Channel.{Channel}
+use Rattle.trace_model.specs.declared.channel.Channel.{Channel}
 use Rattle.chan_map.specs.vidi_lines.declared.lines.Line.{Line}
 use Rattle.script_text.specs.declared.error.ScriptError.TheVariants as script_errors
 use Rattle.script_text.specs.declared.error.StallError.TheVariants as stall_errors

@@ -1,7 +1,7 @@
 -- What is kept of a script from row to row: a place for each channel, and the completions so far.
 use Rattle.std.specs.Prelude.{◌≡◌, ℕ, ◌≤◌, ◌<◌, ◌-◌, Bool, false, nat_le, nat_lt, List, Option, Some, None, length, slice_get}
 use Rattle.std.specs.Prelude.{slice_index, ◌+◌}
-use Rattle.chan_map.specs.trace_model.declared.row.Row.{Row}
+use Rattle.trace_model.specs.declared.row.Row.{Row}
 use Rattle.script_text.specs.declared.script.Step.{Step}
 use Rattle.script_text.specs.declared.script.Step.TheVariants.{Send, Take, TakeAll, Wait, After}
 use Rattle.script_text.specs.declared.script.Script.{Script}

@@ -2,7 +2,7 @@
 use Rattle.std.specs.Prelude.{◌≡◌, ℕ, ◌+◌, ◌<◌, ◌++◌, ◌&&◌, Bool, true, slice_index_or, List, [], ◌∷◌, length, drop, codes, Option}
 use Rattle.std.specs.Prelude.{Some, None, Result, Ok, Err}
 use Rattle.std.specs.List.{prefix_len, list_all}
-use Rattle.chan_map.specs.trace_model.declared.channel.Channel.{Channel}
+use Rattle.trace_model.specs.declared.channel.Channel.{Channel}
 use Rattle.chan_map.specs.vidi_bits.Findings.{first, IsFirst}
 use Rattle.chan_map.specs.vidi_lines.declared.lines.Line.{Line}
 use Rattle.script_text.specs.declared.error.ScriptError.{ScriptError}

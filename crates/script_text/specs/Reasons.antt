@@ -3,10 +3,10 @@ use Rattle.std.specs.Prelude.{ℕ, ◌+◌, ◌^◌, ◌||◌, ◌&&◌, not, Bo
 use Rattle.std.specs.Prelude.{◌++◌, map, drop, slice_get, codes, Option, Some, None}
 use Rattle.std.specs.List.{flat_map, prefix_len}
 use Rattle.std.specs.Option.{option_to_list}
-use Rattle.chan_map.specs.trace_model.Channel.{between}
-use Rattle.chan_map.specs.trace_model.declared.channel.Channel.{Channel}
-use Rattle.chan_map.specs.trace_model.declared.channel.Dir.{Dir}
-use Rattle.chan_map.specs.trace_model.declared.channel.Dir.TheVariants.{Inward, Outward}
+use Rattle.trace_model.specs.Channel.{between}
+use Rattle.trace_model.specs.declared.channel.Channel.{Channel}
+use Rattle.trace_model.specs.declared.channel.Dir.{Dir}
+use Rattle.trace_model.specs.declared.channel.Dir.TheVariants.{Inward, Outward}
 use Rattle.chan_map.specs.vidi_bits.Findings.{is_nil, told_if}
 use Rattle.chan_map.specs.vidi_lines.declared.lines.Line.{Line}
 use Rattle.chan_map.specs.vidi_lines.Lines.{file_lines, line_unless_bad}

@@ -4,7 +4,7 @@ use Rattle.std.specs.Prelude.{Option, Some, None, Result, Ok, Err}
 use Rattle.std.specs.List.{prefix_len}
 use Rattle.std.specs.Str.{bytes_eq}
 use Rattle.std.specs.Option.{option_to_list}
-use Rattle.chan_map.specs.trace_model.Channel.{between}
+use Rattle.trace_model.specs.Channel.{between}
 use Rattle.chan_map.specs.vidi_bits.Findings.{first, told_if}
 use Rattle.chan_map.specs.vidi_lines.declared.lines.Line.{Line}
 use Rattle.chan_map.specs.vidi_lines.Number.{number_of}

@@ -5,10 +5,10 @@ ghost use Rattle.script_text.specs.Forms.{keyword_of, channel_named, numbers_of,
 
 use crate::said::{Said, StepLine};
 use crate::used::is_word;
-use chan_map::trace_model::Channel;
 use chan_map::vidi_bits::{Memory, Name, Numbers};
 use chan_map::vidi_lines::number;
 use std::alloc::Global;
+use trace_model::Channel;
 
 /// The word behind a channel's name.
 #[derive(Clone, Copy, PartialEq, Eq)]

@@ -12,10 +12,10 @@ use crate::forms::line_of;
 use crate::lawful::{fits_numbers, made, names_channels};
 use crate::said::StepLine;
 use crate::script::{Step, StepLists, Steps};
-use chan_map::trace_model::Channel;
 use chan_map::vidi_bits::Memory;
 use chan_map::vidi_lines::Line;
 use std::alloc::Global;
+use trace_model::Channel;
 
 /// What is gathered of the lines of a script.
 #[derive(Drop)]

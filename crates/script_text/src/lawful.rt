@@ -2,13 +2,13 @@
 
 ghost use Rattle.std.specs.Prelude.{◌≡◌, true, is_some};
 ghost use Rattle.std.specs.Option.{option_copied};
-ghost use Rattle.chan_map.specs.trace_model.Channel.{between};
+ghost use Rattle.trace_model.specs.Channel.{between};
 ghost use Rattle.script_text.specs.Reasons.{channel_at, suits, names_channels, fits_ports, fits_content, is_small, fits_numbers};
 ghost use Rattle.script_text.specs.Steps.{made};
 
 use crate::said::{Said, StepLine};
 use crate::script::{MOST_CYCLES, Step};
-use chan_map::trace_model::{Channel, Dir, fits};
+use trace_model::{Channel, Dir, fits};
 
 /// Whether a number is in a range, its ends with it.
 pub fn between(low: u128, high: u128, n: u128) -> bool

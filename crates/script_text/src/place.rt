@@ -2,12 +2,12 @@
 
 ghost use Rattle.std.specs.Prelude.{◌≡◌, ◌<◌, ◌+◌, ◌^◌, ◌≤◌, ℕ, List, length, slice_index, if◌then◌else◌};
 ghost use Rattle.chan_map.specs.vidi_bits.Number.{has};
-ghost use Rattle.chan_map.specs.trace_model.declared.row.Row.{Row};
+ghost use Rattle.trace_model.specs.declared.row.Row.{Row};
 ghost use Rattle.script_text.specs.Fits.{steps_of};
 ghost use Rattle.script_text.specs.Places.{over_now, ReadsWithin, AllReadWithin, AreCounts, IsAt, Waited, ArePlaces, IsMoved};
 
 use crate::{Script, Step};
-use chan_map::trace_model::names;
+use trace_model::names;
 
 /// A channel's place in its steps.
 #[derive(Clone, Copy, Drop)]

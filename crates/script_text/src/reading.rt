@@ -1,7 +1,7 @@
 //! Reads a script.
 
 ghost use Rattle.std.specs.Prelude.{◌≡◌, ◌+◌, ◌<◌, ◌^◌, length, List};
-ghost use Rattle.chan_map.specs.trace_model.declared.channel.Channel.{Channel};
+ghost use Rattle.trace_model.specs.declared.channel.Channel.{Channel};
 ghost use Rattle.script_text.specs.declared.said.StepLine.{StepLine};
 ghost use Rattle.script_text.specs.Reasons.{read_lines};
 ghost use Rattle.script_text.specs.Reads.{Gathers, IsGathered, Finishes, ReadsScript};
@@ -12,9 +12,9 @@ use crate::lawful::between;
 use crate::script::{MOST_CYCLES, Script};
 use crate::used::{blank_lines, number_in};
 use chan_map::Map;
-use chan_map::trace_model::Channel;
 use chan_map::vidi_lines::{Line, each_line};
 use std::alloc::Global;
+use trace_model::Channel;
 
 /// Gathers what lines say, the first having this number.
 fn gathered(

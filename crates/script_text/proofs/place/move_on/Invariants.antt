@@ -1,5 +1,5 @@
 use Rattle.std.proofs.Common.{List}
-use Rattle.chan_map.specs.trace_model.declared.row.Row.{Row}
+use Rattle.trace_model.specs.declared.row.Row.{Row}
 use Rattle.script_text.specs.Places.{AreCounts, ArePlaces}
 use Rattle.script_text.proofs.Moves.{HaveMoved}
 use Rattle.script_text.proofs.place.move_on.Given as goal
