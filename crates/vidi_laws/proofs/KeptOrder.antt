@@ -123,7 +123,7 @@ missing-keeps Outward End = refl
 missing-keeps Outward Reset = refl
 
 -- a finding is on a start or an end
-is_reset : Kind → Bool
+abbrev is_reset : Kind → Bool
 is_reset Reset = true
 is_reset kind = false
 
