@@ -4,9 +4,9 @@ use Rattle.std.proofs.Common.{length, take, drop, get_or, replicate, slice_get, 
 use Rattle.std.proofs.Common.{◌≢◌, suc}
 use Rattle.std.specs.Prelude.{◌↔◌}
 use Rattle.std.specs.Int.{bit_at}
-use Rattle.std.proofs.Math.Nat.{mul-le-mul_left, pow-le-pow_right}
+use Rattle.std.proofs.Math.Nat.{pow-le-pow_right}
 use Rattle.std.proofs.lemmas.Bool.{cases_Bool, cases_eq, cases_lt, cond-true, cond-false}
-use Rattle.std.proofs.lemmas.List.{append-nil, drop_all, drop_at, drop-drop, get_or-drop, get_or-take, length-append, length-drop}
+use Rattle.std.proofs.lemmas.List.{append-nil, drop_all, drop_at, drop-drop, length-append, length-drop}
 use Rattle.std.proofs.lemmas.List.{length-replicate, length-take-le, take-append-drop, take_all, take_at}
 use Rattle.std.proofs.lemmas.Nat.{pow_pos}
 use Rattle.std.proofs.lemmas.Nat.Bits.{bit_at_above, bit_at_cat_high, bit_at_cat_low, bit_at-zero}
@@ -53,7 +53,7 @@ pub record AreMarked (channels : List Channel) (dir : Dir) (up : ℕ → Type 0)
   pub below : mask < 2 ^ length channels
   pub each : (d : ℕ) (x : Channel) → slice_get channels d ≡ Some x → bit_at left d ≡ 0 → (has mask d ≡ true) ↔ ((x.dir ≡ dir) × up d)
 
-one-below : (b : Bool) (c mask : ℕ) → mask < 2 ^ c → cond b 1 0 * 2 ^ c + mask < 2 ^ suc c
+pub one-below : (b : Bool) (c mask : ℕ) → mask < 2 ^ c → cond b 1 0 * 2 ^ c + mask < 2 ^ suc c
 one-below true c mask l = let p : 2 ^ suc c ≡ 2 ^ c + 2 ^ c = omega arith in omega (arith, p, l)
 one-below false c mask l = let p : 2 ^ suc c ≡ 2 ^ c + 2 ^ c = omega arith in omega (arith, p, l)
 
@@ -61,13 +61,13 @@ one-bit : (b : Bool) → eqb (bit_at (cond b 1 0) 0) 1 ≡ b
 one-bit true = refl
 one-bit false = refl
 
-top-bit : (b : Bool) (c mask : ℕ) → mask < 2 ^ c → has (cond b 1 0 * 2 ^ c + mask) c ≡ b
+pub top-bit : (b : Bool) (c mask : ℕ) → mask < 2 ^ c → has (cond b 1 0 * 2 ^ c + mask) c ≡ b
 top-bit b c mask l =
     let z : c - c ≡ 0 = omega arith in
     ap (λ x. eqb x 1) (bit_at_cat_high (cond b 1 0) c mask c l (omega arith) ∙ ap (bit_at (cond b 1 0)) z) ∙ one-bit b
 
 -- the other bits stay
-other-bit : (b : Bool) (c mask d : ℕ) → mask < 2 ^ c → d ≢ c → has (cond b 1 0 * 2 ^ c + mask) d ≡ has mask d
+pub other-bit : (b : Bool) (c mask d : ℕ) → mask < 2 ^ c → d ≢ c → has (cond b 1 0 * 2 ^ c + mask) d ≡ has mask d
 other-bit b c mask d l ne = ⊎_elim
     (λ (m : d < c). ap (λ x. eqb x 1) (bit_at_cat_low (cond b 1 0) c mask d m))
     (λ (m : c ≤ d).

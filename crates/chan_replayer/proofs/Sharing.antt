@@ -1,11 +1,11 @@
 -- Clocks that stand at the places of channels.
 use Rattle.std.proofs.Common.{◌≡◌, ◌≢◌, ◌⊎◌, ℕ, zero, suc, ◌+◌, ◌*◌, ◌<◌, ◌≤◌, List, [], ◌∷◌, ◌++◌, inl, inr}
-use Rattle.std.proofs.Common.{length, take, drop, get_or, set, replicate, refl, ap, sym, subst, ◌∙◌, arith, ⊎_elim}
+use Rattle.std.proofs.Common.{length, take, drop, get_or, set, refl, ap, sym, subst, ◌∙◌, arith, ⊎_elim}
 use Rattle.std.specs.List.{flat_map}
 use Rattle.std.proofs.Math.Nat.{mul-le-mul_left}
-use Rattle.std.proofs.lemmas.Bool.{cases_eq, cases_lt}
+use Rattle.std.proofs.lemmas.Bool.{cases_lt}
 use Rattle.std.proofs.lemmas.Grind.{same_number_lists}
-use Rattle.std.proofs.lemmas.List.{drop-drop, drop_at, get_or-drop, get_or-take, length-append, length-drop, length-set, length-take-le, nil_from_length, take-append-drop, take_at, get_or-set_same, get_or-set_other}
+use Rattle.std.proofs.lemmas.List.{drop-drop, drop_all, drop_at, take_all, get_or-drop, get_or-take, length-append, length-drop, length-set, length-take-le, nil_from_length, take-append-drop, take_at, get_or-set_same, get_or-set_other}
 use Rattle.chan_replayer.specs.Needs.{clock_at, all_clocks, AreUsers, AreShared}
 
 -- ---- where a clock stands
@@ -27,6 +27,12 @@ clock-long n clocks c long l =
     let w = clock-within n c l in
     let d = length-drop (n * c) clocks in
     length-take-le n (drop (n * c) clocks) (omega (arith, w, d, long))
+
+-- there is none behind the last
+no-clock : (n : ℕ) (clocks : List ℕ) (c : ℕ) → length clocks ≡ n * n → n ≤ c → clock_at n clocks c ≡ []
+no-clock n clocks c long l =
+    let past = mul-le-mul_left n l in
+    ap (take n) (drop_all (n * c) clocks (omega (arith, past, long))) ∙ take_all n [] (omega arith)
 
 pub number-at : (n : ℕ) (clocks : List ℕ) (c d : ℕ) → d < n → get_or (clock_at n clocks c) d 0 ≡ get_or clocks (n * c + d) 0
 number-at n clocks c d l = get_or-take n (drop (n * c) clocks) d 0 l ∙ get_or-drop (n * c) clocks d 0
@@ -155,9 +161,12 @@ module _ (places users clocks needs new_users new_clocks : List ℕ) (n c p : �
   new-here = new-of c there ∙ ap (clock_at n new_clocks) (get_or-set_same places c p 0
       (let s = side-is places users clocks needs n are view long in omega (arith, there, s)))
 
-  pub new-others : (d : ℕ) → d < n → d ≢ c → clock_at n (all_clocks (set places c p) new_clocks) d ≡ clock_at n needs d
-  new-others d l ne = new-of d l ∙ ap (clock_at n new_clocks) (get_or-set_other places c d p 0 ne) ∙ same d l ne
-      ∙ sym (clock-is places users clocks needs n are view long d l)
+  pub new-others : (d : ℕ) → d ≢ c → clock_at n (all_clocks (set places c p) new_clocks) d ≡ clock_at n needs d
+  new-others d ne = ⊎_elim
+      (λ (l : d < n). new-of d l ∙ ap (clock_at n new_clocks) (get_or-set_other places c d p 0 ne) ∙ same d l ne
+      ∙ sym (clock-is places users clocks needs n are view long d l))
+      (λ (l : n ≤ d). no-clock n (all_clocks (set places c p) new_clocks) d new-long l ∙ sym (no-clock n needs d long l))
+      (cases_lt d n)
 
 -- where each clock stands at its own place, contracts see the clocks as they stand
 pub clocks-own : (n : ℕ) (places users clocks : List ℕ) → length places ≡ n → length clocks ≡ n * n → AreUsers places users

@@ -17,7 +17,7 @@ mod shell;
 pub use chan_monitor;
 pub use chan_monitor::{chan_map, run_model};
 pub use fed::FedShell;
-pub use feed::Feed;
+pub use feed::{Feed, kind_of};
 pub use laws::fed_rows_replay;
 pub use machines::ReplayMachines;
 pub use needs::Needs;

@@ -161,7 +161,7 @@ impl Needs {
         requires there { (n : ℕ) × (length self.old ≡ n * n) × (c < n) × ((d : ℕ) → d < n → F.pre number d) }
         ensures long { length self.new ≡ length self.old }
         ensures here { (n d : ℕ) → length self.old ≡ n * n → d < n → F.post number d (slice_index self.new (n * c + d)) }
-        ensures others { (n d : ℕ) → length self.old ≡ n * n → d < n → d ≢ c → clock_at n self.new d ≡ clock_at n self.old d }
+        ensures others { (n d : ℕ) → length self.old ≡ n * n → d ≢ c → clock_at n self.new d ≡ clock_at n self.old d }
     {
         let channels = self.places.len();
         let place = part(self.places.as_mut_slice(), self.users.as_mut_slice(), c);
@@ -178,7 +178,7 @@ impl Needs {
         requires there { (n : ℕ) × (length self.old ≡ n * n) × (c < n) × (b < n) }
         ensures long { length self.new ≡ length self.old }
         ensures here { (n : ℕ) → length self.old ≡ n * n → clock_at n self.new c ≡ clock_at n self.old b }
-        ensures others { (n d : ℕ) → length self.old ≡ n * n → d < n → d ≢ c → clock_at n self.new d ≡ clock_at n self.old d }
+        ensures others { (n d : ℕ) → length self.old ≡ n * n → d ≢ c → clock_at n self.new d ≡ clock_at n self.old d }
     {
         let place = usize::from(self.places.as_slice()[b]);
         move_to(

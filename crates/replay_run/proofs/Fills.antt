@@ -1,17 +1,18 @@
 -- The feed that cursors give, piece by piece.
-use Rattle.std.proofs.Common.{◌≡◌, ◌≢◌, ◌⊎◌, ℕ, ◌+◌, ◌-◌, ◌*◌, ◌^◌, ◌<◌, ◌≤◌, min, Bool, true, false, not, List, [], ◌∷◌, ◌++◌, Option, Some}
+use Rattle.std.proofs.Common.{◌≡◌, ◌≢◌, ◌⊎◌, ℕ, ◌+◌, ◌-◌, ◌*◌, ◌^◌, ◌<◌, ◌≤◌, min, Bool, true, false, not, ◌&&◌, List, [], ◌∷◌, ◌++◌, Option, Some, None}
 use Rattle.std.proofs.Common.{length, take, get_or, set, slice_get, inl, inr, refl, sym, ap, subst, ◌∙◌, arith, ⊎_elim, replicate}
-use Rattle.std.specs.Prelude.{◌↔◌}
+use Rattle.std.specs.Prelude.{◌↔◌, IfSome}
 use Rattle.std.specs.Int.{bit_at}
-use Rattle.std.proofs.Math.Nat.{mul-le-mul_left}
 use Rattle.std.proofs.lemmas.Bool.{cases_Bool, cases_eq, cases_lt, false≢true}
-use Rattle.std.proofs.lemmas.List.{get_or_past, length-take-le, take_all, take_more}
+use Rattle.std.proofs.lemmas.List.{length-take-le, take_all, take_more}
 use Rattle.std.proofs.lemmas.Nat.{pow_pos}
-use Rattle.std.proofs.lemmas.Option.{same_Some, slice_get_read, slice_get_within}
+use Rattle.std.proofs.lemmas.Option.{same_Some, slice_get_cases, slice_get_read, slice_get_within}
 use Rattle.trace_code.specs.vidi_bits.Number.{has}
 use Rattle.trace_code.specs.trace_model.declared.channel.Channel.{Channel}
 use Rattle.trace_code.specs.trace_model.declared.event.Kind.{Kind}
-use Rattle.trace_code.specs.trace_model.declared.event.Kind.TheVariants.{Start, End}
+use Rattle.trace_code.specs.trace_model.declared.event.Kind.TheVariants.{Start, End, Reset}
+use Rattle.trace_code.specs.trace_model.declared.channel.Dir.{Dir}
+use Rattle.trace_code.specs.trace_model.declared.channel.Dir.TheVariants.{Inward, Outward}
 use Rattle.trace_code.specs.trace_model.declared.packet.Packet.{Packet}
 use Rattle.trace_code.specs.trace_model.declared.trace.Trace.{Trace}
 use Rattle.trace_code.specs.trace_model.Channel.{IsChannel, IsTable}
@@ -25,26 +26,15 @@ use Rattle.trace_code.proofs.trace_model_lemmas.MaskLemmas.{no-bit-from-has}
 use Rattle.trace_code.proofs.trace_model_lemmas.RowLemmas.{first_of, first-more, replaced-more}
 use Rattle.trace_code.specs.declared.cursor.Cursor.{Cursor}
 use Rattle.trace_code.specs.Stands.{Stands}
+use Rattle.chan_replayer.proofs.FedOffers.{named-within}
 use Rattle.chan_replayer.proofs.run_model_lemmas.Contents.{fit-zeros, has-all}
 use Rattle.chan_replayer.proofs.run_model_lemmas.PinLemmas.{all-at}
 use Rattle.chan_replayer.specs.declared.feed.Feed.{Feed}
-use Rattle.chan_replayer.specs.Needs.{clock_at}
-use Rattle.chan_replayer.proofs.Sharing.{number-at}
 use Rattle.chan_replayer.specs.Feed.{kind_of, need_of, IsFeed, IsFeedAt, IsFeedOver}
-use Rattle.replay_run.specs.Behind.{IsBehind}
-use Rattle.replay_run.specs.Feeding.{IsClockBefore, IsFedBefore, IsFeedBut, IsSameAt}
+use Rattle.replay_run.specs.declared.cursors.Cursors.{Cursors}
+use Rattle.replay_run.specs.Behind.{AreBehind, IsBehind}
+use Rattle.replay_run.specs.Feeding.{IsBeside, IsChannelFed, IsClockAt, IsFeedBut, IsSameAt}
 use Rattle.replay_run.proofs.Placing.{content-here, content-other, fit-replaced, room-at, still-below}
-
--- ---- a clock
--- a clock that stays has the numbers that it had
-pub number-stays : (n : ℕ) (old new : List ℕ) (d e : ℕ) → length old ≡ n * n → length new ≡ length old
-    → (d < n → clock_at n new d ≡ clock_at n old d) → e < n → get_or new (n * d + e) 0 ≡ get_or old (n * d + e) 0
-number-stays n old new d e long same stays l = ⊎_elim
-    (λ (b : d < n). sym (number-at n new d e l) ∙ ap (λ xs. get_or xs e 0) (stays b) ∙ number-at n old d e l)
-    (λ (b : n ≤ d).
-    let m = mul-le-mul_left n b in
-    get_or_past new (n * d + e) 0 (omega (arith, m, long, same)) ∙ sym (get_or_past old (n * d + e) 0 (omega (arith, m, long))))
-    (cases_lt d n)
 
 -- ---- a content
 -- the numbers of a start fit its channel's ports
@@ -326,59 +316,49 @@ fed-same channels packets kind c n old new same is = record {
   content = λ p packet at e. same.content ∙ is.content p packet at e;
 }
 
--- the channels below c, and those that aren't named, are fed
-abbrev pub AreFedBelow : List Channel → List Packet → (ℕ → ℕ) → ℕ → ℕ → Feed → Type 0
-AreFedBelow channels packets have which c feed = (d : ℕ) (x : Channel) → slice_get channels d ≡ Some x → (d < c) ⊎ (has which d ≡ false)
-    → IsFeedAt channels packets (kind_of x.dir) d (have d) feed
-
-pub fed-first : (channels : List Channel) (packets : List Packet) (have : ℕ → ℕ) (which : ℕ) (feed : Feed)
-    → IsFeedBut which channels packets have feed → AreFedBelow channels packets have which 0 feed
-fed-first channels packets have which feed but d x at side = ⊎_elim
-    (λ (l : d < 0). absurd (omega (arith, l)))
-    (λ (f : has which d ≡ false). but d x at f)
-    side
-
-pub fed-named : (channels : List Channel) (packets : List Packet) (have : ℕ → ℕ) (which c : ℕ) (x : Channel) (old new : Feed)
-    → c < length channels → x ≡ get_or channels c x → ((d : ℕ) → (d ≢ c) ⊎ (has which d ≡ false) → IsSameAt channels d old new)
-    → (has which c ≡ true → IsFeedAt channels packets (kind_of x.dir) c (have c) new) → AreFedBelow channels packets have which c old
-    → AreFedBelow channels packets have which (c + 1) new
-fed-named channels packets have which c x old new within ex others here so_far d y at side = ⊎_elim
+-- one channel more is fed
+pub fed-more : (channels : List Channel) (packets : List Packet) (have : ℕ → ℕ) (left new_left c : ℕ) (old new : Feed)
+    → ((d : ℕ) → (d ≢ c) ⊎ (has left d ≡ false) → IsSameAt channels d old new) → (has left c ≡ true → IsChannelFed channels packets have c new)
+    → ((d : ℕ) → d ≢ c → has new_left d ≡ has left d) → IsFeedBut left channels packets have old → IsFeedBut new_left channels packets have new
+fed-more channels packets have left new_left c old new others here same so_far d down y at = ⊎_elim
     (λ (e : d ≡ c). ⊎_elim
-    (λ (up : has which d ≡ true).
-    let own : x ≡ y = same_Some x y (sym (slice_get_read channels (length channels) c x refl within ex) ∙ ap (slice_get channels) (sym e) ∙ at) in
-    subst (λ i. IsFeedAt channels packets (kind_of y.dir) i (have i) new) (sym e)
-    (subst (λ (z : Channel). IsFeedAt channels packets (kind_of z.dir) c (have c) new) own (here (ap (has which) (sym e) ∙ up))))
-    (λ (down : has which d ≡ false). fed-same channels packets (kind_of y.dir) d (have d) old new (others d (inr down))
-    (so_far d y at (inr down)))
-    (cases_Bool (has which d)))
+    (λ (up : has left d ≡ true). subst (λ i. IsChannelFed channels packets have i new) (sym e) (here (ap (has left) (sym e) ∙ up)) y at)
+    (λ (none : has left d ≡ false). fed-same channels packets (kind_of y.dir) d (have d) old new (others d (inr none)) (so_far d none y at))
+    (cases_Bool (has left d)))
     (λ (ne : d ≡ c → ⊥). fed-same channels packets (kind_of y.dir) d (have d) old new (others d (inl ne))
-    (so_far d y at (⊎_elim
-    (λ (l : d < c + 1). inl (omega (arith, l, ne)))
-    (λ (f : has which d ≡ false). inr f)
-    side)))
+    (so_far d (sym (same d ne) ∙ down) y at))
     (cases_eq d c)
 
--- the channel before channel c is fed
-pub fed-before : (channels : List Channel) (packets : List Packet) (have : ℕ → ℕ) (which c : ℕ) (feed : Feed)
-    → AreFedBelow channels packets have which c feed → IsFedBefore channels packets have c feed
-fed-before channels packets have which c feed so_far b x next at = so_far b x at (inl (omega (arith, next)))
+-- ---- a channel whose next event is in the same packet
+-- the events that replayers control are no resets
+pub no-reset : (dir : Dir) → kind_of dir ≢ Reset
+no-reset Inward e = cc
+no-reset Outward e = cc
 
--- the clock of the channel before is the one of a cursor's event, where its own event is in the same packet
-pub clock-before : (channels : List Channel) (t : Trace) (have : ℕ → ℕ) (c b : ℕ) (feed : Feed) (x : Channel) (k o : Cursor)
-    → b + 1 ≡ c → slice_get channels b ≡ Some x → IsBehind t (kind_of x.dir) b (have b) o
+pub beside-is : (t : Trace) (have : ℕ → ℕ) (b : ℕ) (kind : Kind) (x : Channel) (k o : Cursor) → slice_get t.channels b ≡ Some x → kind ≡ kind_of x.dir
+    → IsBehind t kind b (have b) o
     → ((i j p : ℕ) (packet : Packet) → Stands k t i → Stands o t j → IsNth (does k.kind k.channel) t.packets i p packet
     → IsNth (does o.kind o.channel) t.packets j p packet)
-    → IsFedBefore channels t.packets have c feed → IsClockBefore t k (length channels) c feed.needs
-clock-before channels t have c b feed x k o next at is beside fed i p packet st nth-is e same d l =
-    let too = beside i (min (have b) (count (kind_of x.dir) b t.packets)) p packet st is.stands nth-is in
-    let own : IsNth (does (kind_of x.dir) b) t.packets (min (have b) (count (kind_of x.dir) b t.packets)) p packet =
-    subst (λ (a : Kind). IsNth (does a b) t.packets (min (have b) (count (kind_of x.dir) b t.packets)) p packet) is.over.0
-    (subst (λ a. IsNth (does o.kind a) t.packets (min (have b) (count (kind_of x.dir) b t.packets)) p packet) is.over.1 too) in
-    let here = nth-below (does (kind_of x.dir) b) t.packets (min (have b) (count (kind_of x.dir) b t.packets)) p packet own in
-    let n : min (have b) (count (kind_of x.dir) b t.packets) ≡ have b = omega (arith, here) in
-    let row : e ≡ b = omega (arith, next, same) in
-    ap (λ a. get_or feed.needs (length channels * a + d) 0) row
-    ∙ (fed b x next at).need p packet (subst (λ a. IsNth (does (kind_of x.dir) b) t.packets a p packet) n own) d l
+    → IsBeside t have k b
+beside-is t have b kind x k o there e is says y at i p packet st nth-is =
+    let too = says i (min (have b) (count kind b t.packets)) p packet st is.stands nth-is in
+    let own : IsNth (does kind b) t.packets (min (have b) (count kind b t.packets)) p packet =
+    subst (λ (a : Kind). IsNth (does a b) t.packets (min (have b) (count kind b t.packets)) p packet) is.over.0
+    (subst (λ a. IsNth (does o.kind a) t.packets (min (have b) (count kind b t.packets)) p packet) is.over.1 too) in
+    let here = nth-below (does kind b) t.packets (min (have b) (count kind b t.packets)) p packet own in
+    let n : min (have b) (count kind b t.packets) ≡ have b = omega (arith, here) in
+    let same : x ≡ y = same_Some x y (sym there ∙ at) in
+    subst (λ (a : Kind). IsNth (does a b) t.packets (have b) p packet) (e ∙ ap (λ (z : Channel). kind_of z.dir) same)
+    (subst (λ a. IsNth (does kind b) t.packets a p packet) n own)
+
+-- its clock is that of the event at which the cursor stands
+pub clock-beside : (channels : List Channel) (t : Trace) (have : ℕ → ℕ) (b : ℕ) (feed : Feed) (k : Cursor) → t.channels ≡ channels
+    → b < length channels → IsBeside t have k b → IsChannelFed channels t.packets have b feed → IsClockAt t k (length channels) feed.needs b
+clock-beside channels t have b feed k same l is fed j p packet st nth-is d m = ⊎_elim
+    (λ (h : (x : Channel) × (b < length channels) × (slice_get channels b ≡ Some x) × (get_or channels b x ≡ x)).
+    (fed h.0 h.2).need p packet (is h.0 (ap (λ (cs : List Channel). slice_get cs b) same ∙ h.2) j p packet st nth-is) d m)
+    (λ (h : (length channels ≤ b) × (slice_get channels b ≡ None)). absurd (let past = h.0 in omega (arith, past, l)))
+    (slice_get_cases channels b).1
 
 -- nothing is fed where the channel isn't named
 pub same-at : (channels : List Channel) (c : ℕ) (feed : Feed) → IsSameAt channels c feed feed
@@ -390,22 +370,52 @@ not-own which c d up side e = ⊎_elim
     (λ (down : has which d ≡ false). false≢true (sym down ∙ ap (has which) e ∙ up))
     side
 
-pub fed-all : (channels : List Channel) (packets : List Packet) (have : ℕ → ℕ) (which c : ℕ) (feed : Feed) → length channels ≤ c
-    → AreFedBelow channels packets have which c feed → IsFeed channels packets have feed
-fed-all channels packets have which c feed l so_far d x at = so_far d x at (inl (let w = slice_get_within channels d x at in omega (arith, w, l)))
+pub fed-all : (channels : List Channel) (packets : List Packet) (have : ℕ → ℕ) (left c : ℕ) (feed : Feed) → length channels ≤ c
+    → ((d : ℕ) → d < c → has left d ≡ false) → IsFeedBut left channels packets have feed → IsFeed channels packets have feed
+fed-all channels packets have left c feed l none so_far d x at =
+    so_far d (none d (let w = slice_get_within channels d x at in omega (arith, w, l))) x at
 
 -- the mask of all
 pub but-all : (channels : List Channel) (packets : List Packet) (have : ℕ → ℕ) (feed : Feed) → length channels ≤ 128
     → IsFeedBut (2 ^ 128 - 1) channels packets have feed
-but-all channels packets have feed few d x at down =
+but-all channels packets have feed few d down x at =
     absurd (false≢true (sym down ∙ has-all 128 d (let w = slice_get_within channels d x at in omega (arith, w, few))))
 
 -- the channels that don't complete await the same event
 pub but-next : (channels : List Channel) (packets : List Packet) (have : ℕ → ℕ) (ends : ℕ) (feed : Feed) → IsFeed channels packets have feed
     → IsFeedBut ends channels packets (λ c. have c + bit_at ends c) feed
-but-next channels packets have ends feed is d x at down =
+but-next channels packets have ends feed is d down x at =
     let e : have d ≡ have d + bit_at ends d = (let z = no-bit-from-has ends d down in omega (arith, z)) in
     subst (λ n. IsFeedAt channels packets (kind_of x.dir) d n feed) e (is d x at)
+
+-- fewer are left
+pub none-left : (left new c : ℕ) → has new c ≡ false → ((d : ℕ) → d ≢ c → has new d ≡ has left d) → ((d : ℕ) → d < c → has left d ≡ false)
+    → (d : ℕ) → d < c + 1 → has new d ≡ false
+none-left left new c own others below d l = ⊎_elim
+    (λ (e : d ≡ c). ap (has new) e ∙ own)
+    (λ (ne : d ≡ c → ⊥). others d ne ∙ below d (omega (arith, l, ne)))
+    (cases_eq d c)
+
+pub less-without : (left rest b : ℕ) (together : Bool) → rest ≤ left → has left b ≡ true → has rest b ≡ (has left b && not together) → together ≡ true
+    → rest < left
+less-without left rest b together most up is t = ⊎_elim
+    (λ (l : rest < left). l)
+    (λ (l : left ≤ rest). absurd (false≢true (sym (is ∙ ap (λ q. has left b && not q) t ∙ and-none (has left b)) ∙ ap (λ m. has m b)
+    (let e : rest ≡ left = omega (arith, l, most) in e) ∙ up)))
+    (cases_lt rest left)
+  where
+    and-none : (p : Bool) → (p && false) ≡ false
+    and-none true = refl
+    and-none false = refl
+
+pub within-without : (p q r : Bool) → r ≡ (p && not q) → r ≡ true → p ≡ true
+within-without true q r is up = refl
+within-without false q r is up = absurd (false≢true (sym is ∙ up))
+
+pub not-without : (p q r : Bool) → r ≡ (p && not q) → r ≡ true → q ≡ false
+not-without p false r is up = refl
+not-without true true r is up = absurd (false≢true (sym is ∙ up))
+not-without false true r is up = absurd (false≢true (sym is ∙ up))
 
 -- ---- places
 pub place-more : (channels : List Channel) (c at ports : ℕ) (x : Channel) → c < length channels → x ≡ get_or channels c x
@@ -426,3 +436,19 @@ zero-feed channels n needs contents many long places = record {
   needs = long ∙ ap (λ k. k * k) many;
   contents = subst (Fit (all_widths channels)) (sym places) (fit-zeros (all_widths channels));
 }
+
+-- ---- the channel whose clock is shared
+-- `fed` names the channels that have a next event and are fed
+pub beside-there : (more left fed n : ℕ) (o : Option ℕ) → more < 2 ^ n → ((c : ℕ) → has fed c ≡ (has more c && not (has left c)))
+    → IfSome o (λ b. has fed b ≡ true) → IfSome o (λ b. b < n)
+beside-there more left fed n None small each is = tt
+beside-there more left fed n (Some b) small each is = named-within more n b small (within-without (has more b) (has left b) (has fed b) (each b) is)
+
+pub clocks-beside : (channels : List Channel) (t : Trace) (have : ℕ → ℕ) (more left fed : ℕ) (feed : Feed) (cursors : Cursors) (k : Cursor) (o : Option ℕ)
+    → t.channels ≡ channels → more < 2 ^ length channels → ((c : ℕ) → has fed c ≡ (has more c && not (has left c)))
+    → IsFeedBut left channels t.packets have feed → IfSome o (λ b. has fed b ≡ true)
+    → IfSome o (λ b. (u : Trace) (h : ℕ → ℕ) → AreBehind u h cursors → u.channels ≡ channels → IsBeside u h k b) → AreBehind t have cursors → IfSome o (IsClockAt t k (length channels) feed.needs)
+clocks-beside channels t have more left fed feed cursors k None same small each but is beside are = tt
+clocks-beside channels t have more left fed feed cursors k (Some b) same small each but is beside are =
+    clock-beside channels t have b feed k same (named-within more (length channels) b small (within-without (has more b) (has left b) (has fed b) (each b) is))
+    (beside t have are same) (but b (not-without (has more b) (has left b) (has fed b) (each b) is))

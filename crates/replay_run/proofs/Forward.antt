@@ -1,35 +1,37 @@
 -- Cursors behind so many completions.
-use Rattle.std.proofs.Common.{◌≡◌, ℕ, suc, ◌+◌, ◌<◌, ◌≤◌, min, Bool, true, false, cond, List, [], ◌∷◌, ◌++◌, Some, All, length, get_or, set, slice_get, ltb, refl, sym, ap, subst, ◌∙◌, arith, ⊎_elim}
+use Rattle.std.proofs.Common.{◌≡◌, ◌≢◌, ◌&&◌, ℕ, suc, ◌+◌, ◌*◌, ◌^◌, ◌<◌, ◌≤◌, min, bit_and, Bool, true, false, not, cond, List, [], ◌∷◌, ◌++◌, Some, None, All, length, take, drop, get_or, set, slice_get, ltb, refl, sym, ap, subst, ◌∙◌, arith, ⊎_elim}
 use Rattle.std.specs.Prelude.{◌↔◌}
-use Rattle.std.proofs.lemmas.Bool.{cases_lt, false≢true}
-use Rattle.trace_code.specs.trace_model.declared.channel.Channel.{Channel}
-use Rattle.trace_code.specs.trace_model.declared.channel.Dir.{Dir}
-use Rattle.trace_code.specs.trace_model.declared.channel.Dir.TheVariants.{Inward, Outward}
+use Rattle.std.proofs.lemmas.Bool.{cases_Bool, cases_lt, false≢true}
+use Rattle.std.proofs.lemmas.Nat.Bits.{bit_at-zero, bit_at_above, same_from_bits}
 use Rattle.trace_code.specs.trace_model.declared.event.Kind.{Kind}
+use Rattle.trace_code.specs.trace_model.declared.channel.Channel.{Channel}
 use Rattle.trace_code.specs.trace_model.declared.event.Kind.TheVariants.{Start, End, Reset}
 use Rattle.trace_code.specs.trace_model.declared.packet.Packet.{Packet}
 use Rattle.trace_code.specs.trace_model.declared.row.Row.{Row}
 use Rattle.trace_code.specs.trace_model.declared.trace.Trace.{Trace}
-use Rattle.trace_code.specs.trace_model.Channel.{IsTable}
 use Rattle.trace_code.specs.trace_model.Packet.{count, does, IsPacket}
 use Rattle.trace_code.specs.trace_model.Row.{is_in_flight}
 use Rattle.trace_code.specs.trace_model.Trace.{Alternates}
 use Rattle.trace_code.proofs.trace_model_lemmas.FlightLemmas.{balanced-all}
-use Rattle.trace_code.proofs.trace_model_lemmas.CountingLemmas.{count-cons, slice_get-push}
+use Rattle.trace_code.proofs.trace_model_lemmas.CountingLemmas.{nth, slice_get-push}
+use Rattle.chan_replayer.proofs.FedOffers.{one-below, other-bit, top-bit}
+use Rattle.chan_replayer.proofs.Masks.{has-and}
+use Rattle.chan_replayer.proofs.run_model_lemmas.PinLemmas.{all-at}
+use Rattle.replay_run.proofs.Placing.{still-below}
 use Rattle.trace_code.specs.declared.cursor.Cursor.{Cursor}
 use Rattle.trace_code.specs.Encoding.{Encodes}
 use Rattle.trace_code.specs.Stands.{Stands, WalksOver}
-use Rattle.chan_replayer.specs.Feed.{kind_of}
-use Rattle.replay_run.specs.Behind.{AreAt, AreBehind, IsBehind, IsDone}
 use Rattle.replay_run.specs.declared.cursors.Cursors.{Cursors}
+use Rattle.replay_run.specs.Behind.{AreAt, AreBehind, IsBehind, IsDone}
 use Rattle.std.specs.Int.{bit_at}
 use Rattle.std.proofs.Math.ListN.{length-set}
-use Rattle.std.proofs.lemmas.List.Elements.{All-head, All-tail}
 use Rattle.trace_code.specs.vidi_bits.Number.{has}
 use Rattle.trace_code.proofs.trace_model_lemmas.MaskLemmas.{bit-from-has, no-bit-from-has}
+use Rattle.trace_code.proofs.vidi_bits_lemmas.BitLemmas.{has-above, hasn't-from-bit}
+use Rattle.chan_replayer.proofs.run_model_lemmas.Contents.{same-masks}
 use Rattle.std.proofs.lemmas.Bool.{cases_eq, lt-ltb, le-ltb}
-use Rattle.std.proofs.lemmas.Option.{same_Some, slice_get-get_or, slice_get_read, slice_get_within}
-use Rattle.std.proofs.lemmas.List.{get_or-set_other, get_or-set_same}
+use Rattle.std.proofs.lemmas.Option.{same_Some, slice_get-get_or, slice_get_cases, slice_get_read, slice_get_within}
+use Rattle.std.proofs.lemmas.List.{get_or-set_other, get_or-set_same, take_at}
 
 -- what `at_end` says of it
 pub ended-when : (t : Trace) (kind : Kind) (c n : ℕ) (k : Cursor) (r : Bool) → IsBehind t kind c n k
@@ -48,6 +50,18 @@ pub more : (t : Trace) (kind : Kind) (c n : ℕ) (k : Cursor) (r : Bool) → r �
 more t kind c n k r f says = ⊎_elim (λ (l : n < count kind c t.packets). l)
     (λ (l : count kind c t.packets ≤ n). absurd (false≢true (sym f ∙ says.1 l)))
     (cases_lt n (count kind c t.packets))
+
+-- whether there is a further event behind one more
+pub further : (t : Trace) (kind : Kind) (c n : ℕ) (r : Bool) → ((r ≡ true) ↔ (count kind c t.packets ≤ n)) → (not r ≡ true) ↔ (n < count kind c t.packets)
+further t kind c n true says = (λ e. absurd (false≢true e), λ l. absurd (let m = says.0 refl in omega (arith, l, m)))
+further t kind c n false says = (
+  λ e. ⊎_elim (λ (l : n < count kind c t.packets). l) (λ (l : count kind c t.packets ≤ n). absurd (false≢true (says.1 l))) (cases_lt n (count kind c t.packets)),
+  λ l. refl,
+)
+
+-- there is none behind the last
+pub no-further : (t : Trace) (kind : Kind) (c n : ℕ) → count kind c t.packets ≤ n → (false ≡ true) ↔ (n + 1 < count kind c t.packets)
+no-further t kind c n l = (λ e. absurd (false≢true e), λ m. absurd (omega (arith, l, m)))
 
 pub next : (t : Trace) (kind : Kind) (c n : ℕ) (k new : Cursor) → IsBehind t kind c n k → n < count kind c t.packets
     → WalksOver new k.kind k.channel
@@ -94,39 +108,13 @@ done-idle packets have last c f l =
     )
 
 -- ---- the cursor of a channel
-pub cursor-there : (t : Trace) (kind : Kind) (have : ℕ → ℕ) (cursors : List Cursor) (c : ℕ) (k : Cursor) → AreAt t kind have cursors
+pub cursor-there : (t : Trace) (kind : Kind) (have : ℕ → ℕ) (cursors : List Cursor) (mask c : ℕ) (k : Cursor) → AreAt t kind have cursors mask
     → c < length cursors → k ≡ get_or cursors c k → IsBehind t kind c (have c) k
-cursor-there t kind have cursors c k are l e = are.each c k (slice_get_read cursors (length cursors) c k refl l e)
+cursor-there t kind have cursors mask c k are l e = are.each c k (slice_get_read cursors (length cursors) c k refl l e)
 
--- ---- resets
--- replayers control starts and completions
-pub controlled-kind : (dir : Dir) (kind : Kind) → kind ≡ kind_of dir → kind ≡ Reset → ⊥
-controlled-kind Inward kind is reset = let e = sym is ∙ reset in absurd (cc)
-controlled-kind Outward kind is reset = let e = sym is ∙ reset in absurd (cc)
-
--- no packet of a lawful trace is one
-none-of : (channels : List Channel) (packets : List Packet) (c : ℕ) → All (IsPacket channels) packets → count Reset c packets ≡ 0
-none-of channels [] c each = refl
-none-of channels (p ∷ ps) c each =
-    let here = (All-head (IsPacket channels) p ps each).plain.1 in
-    let rest = none-of channels ps c (All-tail (IsPacket channels) p ps each) in
-    let bit : cond {A = ℕ} p.reset 1 0 ≡ 0 = ap (λ b. cond {A = ℕ} b 1 0) here in
-    count-cons (does Reset c) p ps ∙ omega (arith, bit, rest)
-
-first-of : (ks : List Cursor) → 0 < length ks → (k : Cursor) × (slice_get ks 0 ≡ Some k)
-first-of [] l = absurd (omega (arith, l))
-first-of (k ∷ ks) l = (k, refl)
-
-pub no-reset : (t : Trace) (have : ℕ → ℕ) (cursors : Cursors) → AreBehind t have cursors → 1 ≤ length t.channels
-    → (c : ℕ) → count Reset c t.packets ≡ 0
-no-reset t have cursors are some c =
-    let many = are.starts.many in
-    let within : 0 < length cursors.starts.items = omega (arith, many, some) in
-    let k = first-of cursors.starts.items within in
-    none-of t.channels t.packets c (are.starts.each 0 k.0 k.1).stands.0.at.encoding.well_formed.packets
-
-pub table-some : (t : Trace) (channels : List Channel) → t.channels ≡ channels → IsTable channels → 1 ≤ length t.channels
-table-some t channels same table = subst (λ (cs : List Channel). 1 ≤ length cs) (sym same) table.some
+-- the trace of cursors has no more channels than a mask has bits
+pub few-channels : (t : Trace) (kind : Kind) (c n : ℕ) (k : Cursor) → IsBehind t kind c n k → length t.channels ≤ 128
+few-channels t kind c n k is = let few = is.stands.0.at.encoding.table.few in omega (arith, few)
 
 -- ---- all of them
 abbrev pub moved : (ℕ → ℕ) → ℕ → ℕ → ℕ → ℕ
@@ -144,61 +132,77 @@ moved-here have ends c =
     let b : moved have ends c c ≡ have c + 0 = ap (λ b. have c + cond b (bit_at ends c) 0) (le-ltb c c (omega arith)) in
     omega (arith, a, b)
 
-pub moved-one : (t : Trace) (kind : Kind) (have : ℕ → ℕ) (ends c : ℕ) (cursors : List Cursor) (new : Cursor) → c < length cursors
-    → has ends c ≡ true → AreAt t kind (moved have ends c) cursors
-    → IsBehind t kind c (moved have ends c c + 1) new → AreAt t kind (moved have ends (c + 1)) (set cursors c new)
-moved-one t kind have ends c cursors new l up are is = record {
-  many = length-set cursors c new ∙ are.many;
-  each = λ d k at. ⊎_elim
-      (λ (e : d ≡ c).
-      let there : slice_get (set cursors c new) d ≡ Some new =
-      slice_get-get_or (set cursors c new) d new (omega (arith, e, l, length-set cursors c new)) ∙ ap Some (ap (λ i. get_or (set cursors c new) i new) e ∙ get_or-set_same cursors c new new l) in
-      let same : new ≡ k = same_Some new k (sym there ∙ at) in
-      let n : moved have ends c c + 1 ≡ moved have ends (c + 1) d =
-      ap (λ b. moved have ends c c + b) (sym (bit-from-has ends c up)) ∙ sym (moved-here have ends c) ∙ ap (moved have ends (c + 1)) (sym e) in
-      subst (λ i. IsBehind t kind i (moved have ends (c + 1) d) k) (sym e)
-      (subst (λ m. IsBehind t kind c m k) n (subst (IsBehind t kind c (moved have ends c c + 1)) same is)))
-      (λ (ne : d ≡ c → ⊥).
-      let within = slice_get_within (set cursors c new) d k at in
-      let back : slice_get cursors d ≡ Some k =
-      slice_get-get_or cursors d k (omega (arith, within, length-set cursors c new))
-      ∙ ap Some (sym (get_or-set_other cursors c d new k ne) ∙ same_Some (get_or (set cursors c new) d k) k (sym (slice_get-get_or (set cursors c new) d k within) ∙ at)) in
-      subst (λ m. IsBehind t kind d m k) (moved-other have ends c d ne) (are.each d k back))
-      (cases_eq d c);
+-- as many completions, said in another way
+more-same : (b : Bool) (n m count : ℕ) → n ≡ m → ((b ≡ true) ↔ (n < count)) → (b ≡ true) ↔ (m < count)
+more-same b n m count e says = (λ up. (let l = says.0 up in omega (arith, l, e)), λ (l : m < count). says.1 (omega (arith, l, e)))
+
+along : {P : Type 0} (a b : Bool) → b ≡ a → ((a ≡ true) ↔ P) → (b ≡ true) ↔ P
+along a b e p = (λ t. p.0 (sym e ∙ t), λ q. e ∙ p.1 q)
+
+same-have : (t : Trace) (kind : Kind) (have new : ℕ → ℕ) (cursors : List Cursor) (mask : ℕ) → ((d : ℕ) → d < length cursors → have d ≡ new d)
+    → AreAt t kind have cursors mask → AreAt t kind new cursors mask
+same-have t kind have new cursors mask same are = record {
+  many = are.many;
+  each = λ d k at. subst (λ m. IsBehind t kind d m k) (same d (slice_get_within cursors d k at)) (are.each d k at);
+  below = are.below;
+  more = λ d l. more-same (has mask d) (have d) (new d) (count kind d t.packets) (same d (let m = are.many in omega (arith, l, m))) (are.more d l);
 }
 
-pub moved-none : (t : Trace) (kind : Kind) (have : ℕ → ℕ) (ends c : ℕ) (cursors : List Cursor) → has ends c ≡ false
-    → AreAt t kind (moved have ends c) cursors → AreAt t kind (moved have ends (c + 1)) cursors
-moved-none t kind have ends c cursors down are = record {
-  many = are.many;
-  each = λ d k at. ⊎_elim
-      (λ (e : d ≡ c).
-      let n : moved have ends c d ≡ moved have ends (c + 1) d =
-      ap (moved have ends c) e ∙ (let h = moved-here have ends c in let z = no-bit-from-has ends c down in
-      let w : moved have ends c c ≡ moved have ends (c + 1) c = omega (arith, h, z) in w) ∙ ap (moved have ends (c + 1)) (sym e) in
-      subst (λ m. IsBehind t kind d m k) n (are.each d k at))
-      (λ (ne : d ≡ c → ⊥). subst (λ m. IsBehind t kind d m k) (moved-other have ends c d ne) (are.each d k at))
-      (cases_eq d c);
-}
+pub moved-one : (t : Trace) (kind : Kind) (have : ℕ → ℕ) (ends c : ℕ) (cursors : List Cursor) (mask left : ℕ) (new : Cursor) (r : Bool)
+    → c < length cursors → has ends c ≡ true → AreAt t kind (moved have ends c) cursors mask
+    → IsBehind t kind c (moved have ends c c + 1) new → ((r ≡ true) ↔ (moved have ends c c + 1 < count kind c t.packets))
+    → has left c ≡ r → ((d : ℕ) → d ≢ c → has left d ≡ has mask d) → AreAt t kind (moved have ends (c + 1)) (set cursors c new) left
+moved-one t kind have ends c cursors mask left new r l up are is further own others =
+    let gone : moved have ends c c + 1 ≡ moved have ends (c + 1) c =
+    ap (λ b. moved have ends c c + b) (sym (bit-from-has ends c up)) ∙ sym (moved-here have ends c) in
+    record {
+      many = length-set cursors c new ∙ are.many;
+      each = λ d k at. ⊎_elim
+          (λ (e : d ≡ c).
+          let there : slice_get (set cursors c new) d ≡ Some new =
+          slice_get-get_or (set cursors c new) d new (omega (arith, e, l, length-set cursors c new)) ∙ ap Some (ap (λ i. get_or (set cursors c new) i new) e ∙ get_or-set_same cursors c new new l) in
+          let same : new ≡ k = same_Some new k (sym there ∙ at) in
+          let n : moved have ends c c + 1 ≡ moved have ends (c + 1) d = gone ∙ ap (moved have ends (c + 1)) (sym e) in
+          subst (λ i. IsBehind t kind i (moved have ends (c + 1) d) k) (sym e)
+          (subst (λ m. IsBehind t kind c m k) n (subst (IsBehind t kind c (moved have ends c c + 1)) same is)))
+          (λ (ne : d ≡ c → ⊥).
+          let within = slice_get_within (set cursors c new) d k at in
+          let back : slice_get cursors d ≡ Some k =
+          slice_get-get_or cursors d k (omega (arith, within, length-set cursors c new))
+          ∙ ap Some (sym (get_or-set_other cursors c d new k ne) ∙ same_Some (get_or (set cursors c new) d k) k (sym (slice_get-get_or (set cursors c new) d k within) ∙ at)) in
+          subst (λ m. IsBehind t kind d m k) (moved-other have ends c d ne) (are.each d k back))
+          (cases_eq d c);
+      below = still-below mask left c (length t.channels) (let m = are.many in omega (arith, l, m)) are.below others;
+      more = λ d m. ⊎_elim
+          (λ (e : d ≡ c). subst (λ i. (has left i ≡ true) ↔ (moved have ends (c + 1) i < count kind i t.packets)) (sym e)
+          (more-same (has left c) (moved have ends c c + 1) (moved have ends (c + 1) c) (count kind c t.packets) gone
+          (along r (has left c) own further)))
+          (λ (ne : d ≡ c → ⊥). more-same (has left d) (moved have ends c d) (moved have ends (c + 1) d) (count kind d t.packets)
+          (moved-other have ends c d ne) (along (has mask d) (has left d) (others d ne) (are.more d m)))
+          (cases_eq d c);
+    }
 
-pub moved-first : (t : Trace) (kind : Kind) (have : ℕ → ℕ) (ends : ℕ) (cursors : List Cursor) → AreAt t kind have cursors
-    → AreAt t kind (moved have ends 0) cursors
-moved-first t kind have ends cursors are = record {
-  many = are.many;
-  each = λ d k at.
-      (let n : have d ≡ moved have ends 0 d = sym (ap (λ b. have d + cond b (bit_at ends d) 0) (le-ltb d 0 (omega arith)) ∙ omega arith) in
-      subst (λ m. IsBehind t kind d m k) n (are.each d k at));
-}
+pub moved-none : (t : Trace) (kind : Kind) (have : ℕ → ℕ) (ends c : ℕ) (cursors : List Cursor) (mask : ℕ) → has ends c ≡ false
+    → AreAt t kind (moved have ends c) cursors mask → AreAt t kind (moved have ends (c + 1)) cursors mask
+moved-none t kind have ends c cursors mask down are = same-have t kind (moved have ends c) (moved have ends (c + 1)) cursors mask
+    (λ d l. ⊎_elim
+    (λ (e : d ≡ c). ap (moved have ends c) e ∙ (let h = moved-here have ends c in let z = no-bit-from-has ends c down in
+    let w : moved have ends c c ≡ moved have ends (c + 1) c = omega (arith, h, z) in w) ∙ ap (moved have ends (c + 1)) (sym e))
+    (λ (ne : d ≡ c → ⊥). moved-other have ends c d ne)
+    (cases_eq d c)) are
 
-pub moved-all : (t : Trace) (kind : Kind) (have : ℕ → ℕ) (ends c : ℕ) (cursors : List Cursor) → length cursors ≤ c
-    → AreAt t kind (moved have ends c) cursors → AreAt t kind (λ d. have d + bit_at ends d) cursors
-moved-all t kind have ends c cursors l are = record {
-  many = are.many;
-  each = λ d k at.
-      (let within = slice_get_within cursors d k at in
-      let n : moved have ends c d ≡ have d + bit_at ends d = ap (λ b. have d + cond b (bit_at ends d) 0) (lt-ltb d c (omega (arith, within, l))) in
-      subst (λ m. IsBehind t kind d m k) n (are.each d k at));
-}
+pub moved-first : (t : Trace) (kind : Kind) (have : ℕ → ℕ) (ends : ℕ) (cursors : List Cursor) (mask : ℕ) → AreAt t kind have cursors mask
+    → AreAt t kind (moved have ends 0) cursors mask
+moved-first t kind have ends cursors mask are = same-have t kind have (moved have ends 0) cursors mask
+    (λ d l. sym (ap (λ b. have d + cond b (bit_at ends d) 0) (le-ltb d 0 (omega arith)) ∙ omega arith)) are
+
+pub moved-all : (t : Trace) (kind : Kind) (have : ℕ → ℕ) (ends c : ℕ) (cursors : List Cursor) (mask : ℕ) → length cursors ≤ c
+    → AreAt t kind (moved have ends c) cursors mask → AreAt t kind (λ d. have d + bit_at ends d) cursors mask
+moved-all t kind have ends c cursors mask l are = same-have t kind (moved have ends c) (λ d. have d + bit_at ends d) cursors mask
+    (λ d within. ap (λ b. have d + cond b (bit_at ends d) 0) (lt-ltb d c (omega (arith, within, l)))) are
+
+pub whole : (n : ℕ) (xs ys : List Cursor) → length xs ≡ n → take n (xs ++ drop (length xs) ys) ≡ xs
+whole n xs ys e = ap (λ k. take k (xs ++ drop (length xs) ys)) (sym e) ∙ take_at xs (drop (length xs) ys) (length xs) refl
 
 -- ---- before anything has completed
 pub opened-more : (kind : Kind) (bytes : List ℕ) (n : ℕ) (cursors new : List Cursor) (k : Cursor) → length cursors ≡ n
@@ -213,3 +217,132 @@ opened-more kind bytes n cursors new k long e over stands each t is d i at = ⊎
     subst (λ m. IsBehind t kind m 0 i) here (subst (IsBehind t kind n 0) a.1
     (record { over = over; stands = subst (Stands k t) none (stands t is) })))
     (slice_get-push cursors k i d (ap (λ ks. slice_get ks d) (sym e) ∙ at))
+
+-- a mask of one channel more
+pub named-more : (kind : Kind) (bytes : List ℕ) (n mask new : ℕ) (k : Cursor) (r : Bool) → mask < 2 ^ n → new ≡ cond (not r) 1 0 * 2 ^ n + mask
+    → WalksOver k kind n → ((t : Trace) → Encodes t bytes → Stands k t 0)
+    → ((t : Trace) (j : ℕ) → Stands k t j → (r ≡ true) ↔ (count k.kind k.channel t.packets ≤ j))
+    → ((t : Trace) → Encodes t bytes → (d : ℕ) → d < n → (has mask d ≡ true) ↔ (0 < count kind d t.packets))
+    → (t : Trace) → Encodes t bytes → (d : ℕ) → d < n + 1 → (has new d ≡ true) ↔ (0 < count kind d t.packets)
+named-more kind bytes n mask new k r small e over stands says each t is d l = ⊎_elim
+    (λ (here : d ≡ n).
+    let none : 0 ≡ min 0 (count kind n t.packets) = omega arith in
+    let behind : IsBehind t kind n 0 k = record { over = over; stands = subst (Stands k t) none (stands t is) } in
+    subst (λ i. (has new i ≡ true) ↔ (0 < count kind i t.packets)) (sym here)
+    (along (not r) (has new n) (ap (λ m. has m n) e ∙ top-bit (not r) n mask small)
+    (further t kind n 0 r (ended-when t kind n 0 k r behind (says t)))))
+    (λ (ne : d ≡ n → ⊥). along (has mask d) (has new d) (ap (λ m. has m d) e ∙ other-bit (not r) n mask d small ne)
+    (each t is d (omega (arith, l, ne))))
+    (cases_eq d n)
+
+pub named-below : (n mask new : ℕ) (r : Bool) → mask < 2 ^ n → new ≡ cond (not r) 1 0 * 2 ^ n + mask → new < 2 ^ (n + 1)
+named-below n mask new r small e =
+    let l = one-below (not r) n mask small in
+    let s : n + 1 ≡ suc n = omega arith in
+    subst (λ m. new < 2 ^ m) (sym s) (subst (λ m. m < 2 ^ suc n) (sym e) l)
+
+-- ---- a trace has no resets
+pub no-reset : (channels : List Channel) (packets : List Packet) (c : ℕ) → All (IsPacket channels) packets → count Reset c packets ≡ 0
+no-reset channels packets c all = ⊎_elim
+    (λ (l : 0 < count Reset c packets).
+    let found = nth (does Reset c) packets 0 l in
+    let one = all-at (IsPacket channels) packets found.place found.item all found.is.at in
+    absurd (false≢true (sym one.plain.1 ∙ found.is.passes)))
+    (λ (l : count Reset c packets ≤ 0). omega (arith, l))
+    (cases_lt 0 (count Reset c packets))
+
+-- ---- whether the trace has ended, by masks
+flight-flag : (v g r : Bool) → ((v && g) && not r) ≡ ((v && g) && not ((v && g) && r))
+flight-flag true true r = refl
+flight-flag true false r = refl
+flight-flag false g r = refl
+
+pub flight-is : (row : Row) (c shown : ℕ) (flies : Bool) → shown ≡ bit_and row.valids row.gates → flies ≡ (has shown c && not (has row.readies c))
+    → flies ≡ is_in_flight row c
+flight-is row c shown flies e is =
+    is ∙ ap (λ m. has m c && not (has row.readies c)) e ∙ ap (λ b. b && not (has row.readies c)) (has-and row.valids row.gates c)
+    ∙ flight-flag (has row.valids c) (has row.gates c) (has row.readies c)
+
+-- no bit is up
+none-up : (mask c : ℕ) → mask ≡ 0 → bit_at mask c ≡ 0
+none-up mask c e = ap (λ m. bit_at m c) e ∙ bit_at-zero c
+
+zero-when : (mask n : ℕ) → mask < 2 ^ n → ((c : ℕ) → c < n → bit_at mask c ≡ 0) → mask ≡ 0
+zero-when mask n small none = same_from_bits mask 0 (λ c. ⊎_elim
+    (λ (l : c < n). none c l)
+    (λ (l : n ≤ c). bit_at_above mask n c small l)
+    (cases_lt c n) ∙ sym (bit_at-zero c))
+
+-- a cursor of this kind on a channel that is there
+there-is : (t : Trace) (kind : Kind) (have : ℕ → ℕ) (cursors : List Cursor) (mask c : ℕ) → AreAt t kind have cursors mask → c < length t.channels
+    → (k : Cursor) × IsBehind t kind c (have c) k
+there-is t kind have cursors mask c are l = ⊎_elim {C = (k : Cursor) × IsBehind t kind c (have c) k}
+    (λ (h : (k : Cursor) × (c < length cursors) × (slice_get cursors c ≡ Some k) × (get_or cursors c k ≡ k)). (h.0, are.each c h.0 h.2))
+    (λ (h : (length cursors ≤ c) × (slice_get cursors c ≡ None)). absurd (let p = h.0 in let m = are.many in omega (arith, p, m, l)))
+    (slice_get_cases cursors c).1
+
+module _ (t : Trace) (have : ℕ → ℕ) (cursors : Cursors) (last : Row) (are : AreBehind t have cursors) where
+  none-left : (kind : Kind) (c mask : ℕ) → ((has mask c ≡ true) ↔ (have c < count kind c t.packets)) → bit_at mask c ≡ 0 → count kind c t.packets ≤ have c
+  none-left kind c mask says z = ⊎_elim
+      (λ (l : have c < count kind c t.packets). absurd (let o = bit-from-has mask c (says.1 l) in omega (arith, o, z)))
+      (λ (l : count kind c t.packets ≤ have c). l)
+      (cases_lt (have c) (count kind c t.packets))
+
+  not-left : (kind : Kind) (c mask : ℕ) → ((has mask c ≡ true) ↔ (have c < count kind c t.packets)) → count kind c t.packets ≤ have c → bit_at mask c ≡ 0
+  not-left kind c mask says l = ⊎_elim
+      (λ (up : has mask c ≡ true). absurd (let m = says.0 up in omega (arith, m, l)))
+      (λ (down : has mask c ≡ false). no-bit-from-has mask c down)
+      (cases_Bool (has mask c))
+
+  pub ends-done : ((c : ℕ) → c < length t.channels → IsDone t.packets have last c) → cursors.ends.more ≡ 0
+  ends-done all =
+      zero-when cursors.ends.more (length t.channels) are.ends.below (λ c l. not-left End c cursors.ends.more (are.ends.more c l) (all c l).ends)
+
+pub no-resets : (t : Trace) (have : ℕ → ℕ) (cursors : Cursors) → AreBehind t have cursors → (c : ℕ) → c < length t.channels
+    → count Reset c t.packets ≡ 0
+no-resets t have cursors are c l =
+    let k = there-is t End have cursors.ends.cursors.items cursors.ends.more c are.ends l in
+    no-reset t.channels t.packets c k.1.stands.0.at.encoding.well_formed.packets
+
+-- `idle` names the channels that have a further start and aren't in flight
+module _ (t : Trace) (have : ℕ → ℕ) (cursors : Cursors) (last : Row) (flight idle : ℕ) (are : AreBehind t have cursors)
+    (is : (c : ℕ) → has flight c ≡ is_in_flight last c) (both : (c : ℕ) → has idle c ≡ (has cursors.starts.more c && not (has flight c))) where
+  alternate : (c : ℕ) → c < length t.channels → Alternates t.packets
+  alternate c l = let k = there-is t End have cursors.ends.cursors.items cursors.ends.more c are.ends l in k.1.stands.0.at.encoding.well_formed.alternate
+
+  idle-is : (c : ℕ) → is_in_flight last c ≡ false → has idle c ≡ has cursors.starts.more c
+  idle-is c f = both c ∙ ap (λ b. has cursors.starts.more c && not b) (is c ∙ f) ∙ and-true (has cursors.starts.more c)
+    where
+      and-true : (b : Bool) → (b && true) ≡ b
+      and-true true = refl
+      and-true false = refl
+
+  pub all-done : cursors.ends.more ≡ 0 → idle ≡ 0 → (c : ℕ) → c < length t.channels → IsDone t.packets have last c
+  all-done none zero_idle c l =
+      let ends = none-left t have cursors last are End c cursors.ends.more (are.ends.more c l) (none-up cursors.ends.more c none) in
+      ⊎_elim
+      (λ (f : is_in_flight last c ≡ true). done-flying t.packets have last c (alternate c l) f ends)
+      (λ (f : is_in_flight last c ≡ false). (done-idle t.packets have last c f ends).0
+      (none-left t have cursors last are Start c cursors.starts.more (are.starts.more c l)
+      (no-bit-from-has cursors.starts.more c (sym (idle-is c f) ∙ hasn't-from-bit idle c (none-up idle c zero_idle)))))
+      (cases_Bool (is_in_flight last c))
+
+  pub starts-done : ((c : ℕ) → c < length t.channels → IsDone t.packets have last c) → idle ≡ 0
+  starts-done all = same-masks idle 0 (λ c. ⊎_elim
+      (λ (l : c < length t.channels). ⊎_elim
+      (λ (f : is_in_flight last c ≡ true). both c ∙ ap (λ b. has cursors.starts.more c && not b) (is c ∙ f) ∙ and-false (has cursors.starts.more c) ∙ sym (no-zero c))
+      (λ (f : is_in_flight last c ≡ false).
+      let s = (all c l).starts in
+      let none : cond {A = ℕ} (is_in_flight last c) 1 0 ≡ 0 = ap (λ b. cond {A = ℕ} b 1 0) f in
+      let z = not-left t have cursors last are Start c cursors.starts.more (are.starts.more c l) (omega (arith, s, none)) in
+      idle-is c f ∙ hasn't-from-bit cursors.starts.more c z ∙ sym (no-zero c))
+      (cases_Bool (is_in_flight last c)))
+      (λ (l : length t.channels ≤ c). both c ∙ ap (λ b. b && not (has flight c)) (has-above cursors.starts.more (length t.channels) c are.starts.below l) ∙ sym (no-zero c))
+      (cases_lt c (length t.channels)))
+    where
+      no-zero : (c : ℕ) → has 0 c ≡ false
+      no-zero c = hasn't-from-bit 0 c (bit_at-zero c)
+
+      and-false : (b : Bool) → (b && false) ≡ false
+      and-false true = refl
+      and-false false = refl

@@ -212,7 +212,8 @@ module _ (t : Trace) (rows : List Row) (c : ℕ) (e : Event) (k : Cursor) (r : B
 
 pub event-known : (e : Event) (c n : ℕ) → e.channel ≡ c → e.index ≡ n → e.epoch ≡ 0 → e ≡ event c e.kind n
 event-known e c n channel index epoch =
-    λ i. record { channel = channel i; kind = e.kind; index = index i; epoch = epoch i }
+    ap (λ k. record { channel = e.channel; kind = e.kind; index = e.index; epoch = k }) epoch
+    ∙ ap (λ d. event d e.kind e.index) channel ∙ ap (event c e.kind) index
 
 pub waits-each : (helds : List Held) (packets : List Packet) (rows : List Row) (channels : List Channel)
     → flat_map (λ (d : ℕ × Channel). waits_on helds packets rows d.0) (enumerate_from 0 channels)

@@ -37,10 +37,6 @@ use Rattle.replay_run.specs.declared.play.Ending.TheVariants.{Ended, Short, Unst
 use Rattle.replay_run.proofs.Writing.{room-less}
 
 -- ---- whether the trace has ended
--- no packet is a reset
-abbrev pub NoReset : List Packet → Type 0
-NoReset packets = (c : ℕ) → count Reset c packets ≡ 0
-
 pub flight-last : (o : Option Row) (last : Row) (c : ℕ) → IsLast o last → is_in_flight last c ≡ flies_after o c
 flight-last None last c e =
     let none : has last.valids c ≡ false = ap (λ m. has m c) e ∙ ap (λ k. k == 1) (bit_at-zero c) in
@@ -60,19 +56,21 @@ module _ (d : Design) (m : Map) (packets : List Packet) (runs : Design → Value
   abbrev AllShown : Type 0
   AllShown = (c : ℕ) → c < length m.channels → IsDone packets (done rows) last c
 
-  by-kind : NoReset packets → AllShown → HasEnded (length m.channels) packets rows
-  by-kind none all Start c l = let b = balance c in let s = (all c l).starts in omega (arith, b, s)
-  by-kind none all End c l = (all c l).ends
-  by-kind none all Reset c l = let z = none c in omega (arith, z)
+  by-kind : ((c : ℕ) → c < length m.channels → count Reset c packets ≡ 0) → AllShown → HasEnded (length m.channels) packets rows
+  by-kind plain all Start c l = let b = balance c in let s = (all c l).starts in omega (arith, b, s)
+  by-kind plain all End c l = (all c l).ends
+  by-kind plain all Reset c l = let none = plain c l in omega (arith, none)
 
-  pub ended-when : NoReset packets → (r : Bool) → ((r ≡ true) ↔ AllShown) → (r ≡ true) ↔ HasEnded (length m.channels) packets rows
-  ended-when none r says = (
-    λ t. by-kind none (says.0 t),
+  pub ended-when : ((c : ℕ) → c < length m.channels → count Reset c packets ≡ 0) → (r : Bool) → ((r ≡ true) ↔ AllShown)
+      → (r ≡ true) ↔ HasEnded (length m.channels) packets rows
+  ended-when plain r says = (
+    λ t. by-kind plain (says.0 t),
     λ (h : HasEnded (length m.channels) packets rows). says.1 (λ c l. record { ends = h End c l; starts = let b = balance c in let s = h Start c l in omega (arith, b, s) }),
   )
 
-  pub not-ended : NoReset packets → (r : Bool) → r ≡ false → ((r ≡ true) ↔ AllShown) → ¬ HasEnded (length m.channels) packets rows
-  not-ended none r f says h = false≢true (sym f ∙ (ended-when none r says).1 h)
+  pub not-ended : ((c : ℕ) → c < length m.channels → count Reset c packets ≡ 0) → (r : Bool) → r ≡ false → ((r ≡ true) ↔ AllShown)
+      → ¬ HasEnded (length m.channels) packets rows
+  not-ended plain r f says h = false≢true (sym f ∙ (ended-when plain r says).1 h)
 
 -- ---- one row more
 pub going-push : (n : ℕ) (packets : List Packet) (rows : List Row) (row : Row) → IsGoing n packets rows → ¬ HasEnded n packets rows
@@ -94,7 +92,11 @@ done-push rows row ends e = λ i c. one c i
 
 -- ---- the end of the cycles
 module _ (d : Design) (m : Map) (t : Trace) (runs : Design → Values → List Row → Type 0) (last : Row) (rows : List Row)
-    (at : Plays d m t.packets runs last rows) (same : t.channels ≡ m.channels) (none : NoReset t.packets) where
+    (at : Plays d m t.packets runs last rows) (same : t.channels ≡ m.channels)
+    (plain : (c : ℕ) → c < length t.channels → count Reset c t.packets ≡ 0) where
+  plain-here : (c : ℕ) → c < length m.channels → count Reset c t.packets ≡ 0
+  plain-here c l = plain c (let e = ap length same in omega (arith, l, e))
+
   abbrev Says : Bool → Type 0
   Says r = (r ≡ true) ↔ ((c : ℕ) → c < length t.channels → IsDone t.packets (done rows) last c)
 
@@ -102,7 +104,7 @@ module _ (d : Design) (m : Map) (t : Trace) (runs : Design → Values → List R
   says-here r says = subst (λ (n : ℕ). (r ≡ true) ↔ ((c : ℕ) → c < n → IsDone t.packets (done rows) last c)) (ap length same) says
 
   pub goes-on : (r : Bool) → r ≡ false → Says r → ¬ HasEnded (length m.channels) t.packets rows
-  goes-on r f says = not-ended d m t.packets runs last rows at none r f (says-here r says)
+  goes-on r f says = not-ended d m t.packets runs last rows at plain-here r f (says-here r says)
 
   pub ends-ended : (n cycles : ℕ) → IsGoing (length m.channels) t.packets rows → length rows ≡ cycles → cycles ≤ n → (r : Bool)
       → r ≡ true → Says r → PlaysTo d m t.packets n rows (Ended cycles)
@@ -111,7 +113,7 @@ module _ (d : Design) (m : Map) (t : Trace) (runs : Design → Values → List R
       played = at.replay;
       stable = at.stable;
       within = omega (arith, long, within);
-      ended = (ended-when d m t.packets runs last rows at none r (says-here r says)).0 h;
+      ended = (ended-when d m t.packets runs last rows at plain-here r (says-here r says)).0 h;
       shortest = going;
     },
     sym long,

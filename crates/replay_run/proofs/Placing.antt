@@ -1,45 +1,23 @@
 -- Numbers and bits written at their places.
-use Rattle.std.proofs.Common.{◌≡◌, ◌≢◌, ◌==◌, ℕ, zero, suc, ◌+◌, ◌-◌, ◌*◌, ◌%◌, ◌^◌, ◌<◌, ◌≤◌, true, false, bit_and, bit_or, List, [], ◌∷◌, ◌++◌, Option, Some, None}
+use Rattle.std.proofs.Common.{◌≡◌, ◌≢◌, ℕ, zero, suc, ◌+◌, ◌-◌, ◌^◌, ◌<◌, ◌≤◌, List, [], ◌∷◌, ◌++◌, Option, Some, None}
 use Rattle.std.proofs.Common.{length, take, drop, get_or, slice_get, refl, ap, sym, subst, ◌∙◌, append_assoc, arith, ⊎_elim}
-use Rattle.std.specs.Int.{bit_not, w128}
 use Rattle.std.proofs.lemmas.Bool.{cases_lt}
 use Rattle.std.proofs.Math.Seq.{drop-drop, take-add}
-use Rattle.std.proofs.lemmas.Nat.{and_le_l}
 use Rattle.std.proofs.lemmas.List.{length-append, length-drop, length-take-le, take_at, take_all, drop_at, get_or-drop, get_or-take}
 use Rattle.std.proofs.lemmas.List.{get_or_append_left, get_or-append_right, take-append-drop}
 use Rattle.std.proofs.lemmas.Grind.{same_number_lists}
 use Rattle.std.proofs.lemmas.List.Concat.{flat_map-append}
-use Rattle.std.proofs.lemmas.Nat.Bits.{bit_at_set_same, bit_at_set_other, bit_at_clear_same, bit_at_clear_other, bit_at_above}
 use Rattle.std.proofs.lemmas.Option.{slice_get_within, get_or_from_slice_get, same_Some}
 use Rattle.trace_code.specs.vidi_bits.Number.{has}
-use Rattle.trace_code.proofs.vidi_bits_lemmas.BitLemmas.{fits_by_bits, has-above, hasn't-from-bit}
+use Rattle.trace_code.proofs.vidi_bits_lemmas.BitLemmas.{fits_by_bits, has-above}
 use Rattle.trace_code.specs.trace_model.declared.channel.Channel.{Channel}
 use Rattle.trace_code.specs.trace_model.Packet.{Fit, widths_of}
 use Rattle.trace_code.specs.trace_model.Row.{all_widths, content_at, replaced}
 use Rattle.trace_code.proofs.trace_model_lemmas.ContentsLemmas.{fit-append, fit-front, fit-rest, fit-length}
-use Rattle.trace_code.proofs.trace_model_lemmas.MaskLemmas.{has-from-bit, no-bit-from-has}
+use Rattle.trace_code.proofs.trace_model_lemmas.MaskLemmas.{no-bit-from-has}
 use Rattle.trace_code.proofs.trace_model_lemmas.RowLemmas.{first_of, first-more}
 
--- ---- a bit
-pub bit-put : (mask c : ℕ) → c < 128 → has (bit_or mask (1 * 2 ^ c % 2 ^ 128)) c ≡ true
-bit-put mask c l = has-from-bit (bit_or mask (1 * 2 ^ c % 2 ^ 128)) c (bit_at_set_same w128 mask c l)
-
-pub bit-put_other : (mask c d : ℕ) → c < 128 → d ≢ c → has (bit_or mask (1 * 2 ^ c % 2 ^ 128)) d ≡ has mask d
-bit-put_other mask c d l ne = ap (λ b. b == 1) (bit_at_set_other w128 mask c l d ne)
-
-pub bit-cut : (mask c : ℕ) → c < 128 → has (bit_and mask (bit_not w128 (1 * 2 ^ c % 2 ^ 128))) c ≡ false
-bit-cut mask c l = hasn't-from-bit (bit_and mask (bit_not w128 (1 * 2 ^ c % 2 ^ 128))) c (bit_at_clear_same w128 mask c l)
-
-pub bit-cut_other : (mask c d : ℕ) → mask < 2 ^ 128 → c < 128 → d ≢ c
-    → has (bit_and mask (bit_not w128 (1 * 2 ^ c % 2 ^ 128))) d ≡ has mask d
-bit-cut_other mask c d small l ne =
-    let others = bit_and mask (bit_not w128 (1 * 2 ^ c % 2 ^ 128)) in
-    let most : others ≤ mask = and_le_l mask (bit_not w128 (1 * 2 ^ c % 2 ^ 128)) in
-    ap (λ b. b == 1) (⊎_elim
-    (λ (m : d < 128). bit_at_clear_other w128 mask c l d m ne)
-    (λ (m : 128 ≤ d). bit_at_above others 128 d (omega (arith, most, small)) m ∙ sym (bit_at_above mask 128 d small m))
-    (cases_lt d 128))
-
+-- ---- a mask
 -- a mask of n channels that differs on one of them alone is one of n channels
 pub still-below : (mask new c n : ℕ) → c < n → mask < 2 ^ n → ((d : ℕ) → d ≢ c → has new d ≡ has mask d) → new < 2 ^ n
 still-below mask new c n l small same = fits_by_bits new n (λ k above.

@@ -36,5 +36,4 @@ pub silent_over : (channels : List Channel) (row : Row) → row ≡ record {
   starts = 0;
   ends = 0;
 } → (row.valids ≡ 0) × IsOver channels row × (row.fresh ≡ false)
-silent_over channels row e =
-    subst (λ (r : Row). (r.valids ≡ 0) × IsOver channels r × (r.fresh ≡ false)) (sym e) (refl, over-silent channels, refl)
+silent_over channels row e = subst (λ (r : Row). (r.valids ≡ 0) × IsOver channels r × (r.fresh ≡ false)) (sym e) (refl, over-silent channels, refl)

@@ -75,7 +75,7 @@ unstable-now channels rows last row c is low = record {
 -- ---- one row more
 module _ (d : Design) (m given : Map) (packets : List Packet) (runs : Design → Values → List Row → Type 0) (rows : List Row) (last row : Row)
     (feed : Feed) (same : given ≡ m) (is : IsFeed m.channels packets (done rows) feed) (at : Plays d m packets runs last rows)
-    (shown : (s : Values) (before : List Row) → runs d s before → IsShown d given s before feed row) (unmarked : row.fresh ≡ false) where
+    (shown : (s : Values) (before : List Row) → runs d s before → IsShown d given s before feed row) (plain : row.fresh ≡ false) where
   shows : IsShown d m (at.replay.driven.state (length rows)) rows feed row
   shows = subst (λ (b : Map). IsShown d b (at.replay.driven.state (length rows)) rows feed row) same
       (shown (at.replay.driven.state (length rows)) rows at.at)
@@ -83,7 +83,7 @@ module _ (d : Design) (m given : Map) (packets : List Packet) (runs : Design →
   grown : (after : Values) → IsStep d m (at.replay.driven.state (length rows)) row after
       → Grown d m (IsReplayRow m.channels packets) (rows ++ row ∷ []) after
   grown after step = played-push d m (IsReplayRow m.channels packets) rows row after at.replay
-      (fed-rows_replay d m (at.replay.driven.state (length rows)) packets rows feed row is shows unmarked) shows.over shows.marked step
+      (fed-rows_replay d m (at.replay.driven.state (length rows)) packets rows feed row is shows plain) shows.over shows.marked step
 
   pub stops : (c : ℕ) → IsLowestUnstable m.channels last row (Some c) → StopsBefore d m (IsReplayRow m.channels packets) rows c
   stops c low = record {

@@ -1,5 +1,6 @@
 -- Cursors behind so many completions of each channel.
-use Rattle.std.specs.Prelude.{◌≡◌, ℕ, ◌+◌, ◌≤◌, min, if◌then◌else◌, List, Some, length, slice_get}
+use Rattle.std.specs.Prelude.{◌≡◌, ℕ, ◌+◌, ◌^◌, ◌<◌, ◌≤◌, ◌↔◌, true, min, if◌then◌else◌, List, Some, length, slice_get}
+use Rattle.trace_code.specs.vidi_bits.Number.{has}
 use Rattle.trace_code.specs.trace_model.declared.event.Kind.{Kind}
 use Rattle.trace_code.specs.trace_model.declared.event.Kind.TheVariants.{Start, End}
 use Rattle.trace_code.specs.trace_model.declared.packet.Packet.{Packet}
@@ -16,15 +17,17 @@ pub record IsBehind (t : Trace) (kind : Kind) (c n : ℕ) (k : Cursor) : Type 0 
   pub over : WalksOver k kind c
   pub stands : Stands k t (min n (count kind c t.packets))
 
--- one of this kind for each channel, where `have` completions came
-pub record AreAt (t : Trace) (kind : Kind) (have : ℕ → ℕ) (cursors : List Cursor) : Type 0 where
+-- one of this kind for each channel, where `have` completions came; the mask names the channels that have a further event
+pub record AreAt (t : Trace) (kind : Kind) (have : ℕ → ℕ) (cursors : List Cursor) (mask : ℕ) : Type 0 where
   pub many : length cursors ≡ length t.channels
   pub each : (c : ℕ) (k : Cursor) → slice_get cursors c ≡ Some k → IsBehind t kind c (have c) k
+  pub below : mask < 2 ^ length t.channels
+  pub more : (c : ℕ) → c < length t.channels → (has mask c ≡ true) ↔ (have c < count kind c t.packets)
 
 -- one of each kind
 pub record AreBehind (t : Trace) (have : ℕ → ℕ) (cursors : Cursors) : Type 0 where
-  pub starts : AreAt t Start have cursors.starts.items
-  pub ends : AreAt t End have cursors.ends.items
+  pub starts : AreAt t Start have cursors.starts.cursors.items cursors.starts.more
+  pub ends : AreAt t End have cursors.ends.cursors.items cursors.ends.more
 
 -- nothing has completed
 abbrev pub none_yet : ℕ → ℕ

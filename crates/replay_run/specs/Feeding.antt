@@ -19,17 +19,20 @@ pub record IsSameAt (channels : List Channel) (c : ℕ) (old new : Feed) : Type 
   pub need : (d : ℕ) → d < length channels → need_of (length channels) new c d ≡ need_of (length channels) old c d
   pub content : content_at channels new.contents c ≡ content_at channels old.contents c
 
+-- *IsFeed* of channel c alone
+abbrev pub IsChannelFed : List Channel → List Packet → (ℕ → ℕ) → ℕ → Feed → Type 0
+IsChannelFed channels packets have c feed = (x : Channel) → slice_get channels c ≡ Some x → IsFeedAt channels packets (kind_of x.dir) c (have c) feed
+
 -- *IsFeed* of each channel that the mask doesn't name
 abbrev pub IsFeedBut : ℕ → List Channel → List Packet → (ℕ → ℕ) → Feed → Type 0
-IsFeedBut mask channels packets have feed = (c : ℕ) (x : Channel) → slice_get channels c ≡ Some x → has mask c ≡ false
-    → IsFeedAt channels packets (kind_of x.dir) c (have c) feed
+IsFeedBut mask channels packets have feed = (c : ℕ) → has mask c ≡ false → IsChannelFed channels packets have c feed
 
--- row c - 1 of the clocks of n channels is the clock of the event at which the cursor stands
-abbrev pub IsClockBefore : Trace → Cursor → ℕ → ℕ → List ℕ → Type 0
-IsClockBefore t k n c needs = (j p : ℕ) (packet : Packet) → Stands k t j → IsNth (does k.kind k.channel) t.packets j p packet
-    → (b : ℕ) → b + 1 ≡ c → (d : ℕ) → d < n → slice_index needs (n * b + d) ≡ clock t.packets p d
+-- clock b of the clocks of n channels is that of the event at which the cursor stands
+abbrev pub IsClockAt : Trace → Cursor → ℕ → List ℕ → ℕ → Type 0
+IsClockAt t k n needs b = (j p : ℕ) (packet : Packet) → Stands k t j → IsNth (does k.kind k.channel) t.packets j p packet
+    → (d : ℕ) → d < n → slice_index needs (n * b + d) ≡ clock t.packets p d
 
--- *IsFeed* of channel c - 1, where there is one
-abbrev pub IsFedBefore : List Channel → List Packet → (ℕ → ℕ) → ℕ → Feed → Type 0
-IsFedBefore channels packets have c feed = (b : ℕ) (x : Channel) → b + 1 ≡ c → slice_get channels b ≡ Some x
-    → IsFeedAt channels packets (kind_of x.dir) b (have b) feed
+-- the packet of the event at which the cursor stands has the next event of channel b that the replayers control
+abbrev pub IsBeside : Trace → (ℕ → ℕ) → Cursor → ℕ → Type 0
+IsBeside t have k b = (x : Channel) → slice_get t.channels b ≡ Some x → (j p : ℕ) (packet : Packet) → Stands k t j
+    → IsNth (does k.kind k.channel) t.packets j p packet → IsNth (does (kind_of x.dir) b) t.packets (have b) p packet

@@ -29,7 +29,7 @@ pub record Plays (d : Design) (m : Map) (packets : List Packet) (runs : Design â
   pub stable : AreStable m.channels rows
   pub last_is : IsLast (row_before rows (length rows)) last
 
--- what is kept of these rows, with room for n more; no row is fresh
+-- what is kept of these rows, none of which is fresh, with room for n more
 pub record AreKept (channels : List Channel) (n : â„•) (rows : List Row) (cells : Cells) : Type 0 where
   pub feed : IsFeedOver channels cells.feed
   pub places : HasPlaces channels cells.row

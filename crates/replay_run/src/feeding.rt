@@ -1,6 +1,6 @@
 //! The feed that cursors give.
 
-ghost use Rattle.std.specs.Prelude.{◌≡◌, ◌≢◌, ◌+◌, ◌*◌, ◌<◌, ◌≤◌, ◌↔◌, ◌⊎◌, ℕ, true, false, IsTrue, IfOk, length, slice_get, slice_index, take};
+ghost use Rattle.std.specs.Prelude.{◌≡◌, ◌≢◌, ◌+◌, ◌*◌, ◌^◌, ◌<◌, ◌≤◌, ◌↔◌, ◌⊎◌, ℕ, true, false, IsTrue, IfOk, IfSome, length, slice_get, slice_index, take};
 ghost use Rattle.std.specs.Int.{bit_at};
 ghost use Rattle.trace_code.specs.vidi_bits.Number.{has};
 ghost use Rattle.trace_code.specs.trace_model.declared.packet.Packet.{Packet};
@@ -11,30 +11,17 @@ ghost use Rattle.trace_code.specs.trace_model.Counting.{IsNth};
 ghost use Rattle.trace_code.specs.trace_model.Packet.{content_of, count, does, widths_of};
 ghost use Rattle.trace_code.specs.trace_model.Row.{all_widths, replaced};
 ghost use Rattle.trace_code.specs.Stands.{Stands};
-ghost use Rattle.chan_replayer.specs.Feed.{kind_of, need_of, IsFeed, IsFeedAt, IsFeedOver};
+ghost use Rattle.chan_replayer.specs.Feed.{need_of, IsFeed, IsFeedAt, IsFeedOver};
 ghost use Rattle.replay_run.specs.Behind.{none_yet, AreBehind, IsBehind};
-ghost use Rattle.replay_run.specs.Feeding.{IsClockBefore, IsFedBefore, IsFeedBut, IsSameAt};
-ghost use Rattle.chan_replayer.specs.declared.feed.Feed.{Feed as OneFeed};
+ghost use Rattle.replay_run.specs.Feeding.{IsBeside, IsClockAt, IsChannelFed, IsFeedBut, IsSameAt};
 
-use crate::cursors::{Cursors, cursor_of, kind_of};
-use chan_replayer::{Feed, Needs};
+use crate::bits::{with_bit_as, without};
+use crate::cursors::{Cursors, cursor_of};
+use chan_replayer::{Feed, Needs, kind_of};
 use std::alloc::Global;
 use trace_code::Cursor;
-use trace_code::trace_model::{Channel, Channels, Dir, Kind, names, row_over};
+use trace_code::trace_model::{Channel, Channels, Dir, Kind, lowest, names, row_over};
 use trace_code::vidi_bits::{Memory, Numbers};
-
-/// The mask with the bit of a channel up or down.
-fn with_bit_as(mask: u128, channel: usize, up: bool) -> u128
-    requires few { channel < 128 }
-    ensures here { has result channel ≡ up }
-    ensures others { (c : ℕ) → c ≢ channel → has result c ≡ has mask c }
-{
-    if up {
-        mask | 1 << channel
-    } else {
-        mask & !(1 << channel)
-    }
-}
 
 /// Writes the content of the start at which a cursor stands, a number for each port, from place `at` on.
 fn copy_content(cursor: &Cursor, ports: usize, contents: &mut [u128], at: usize)
@@ -52,29 +39,29 @@ fn copy_content(cursor: &Cursor, ports: usize, contents: &mut [u128], at: usize)
     }
 }
 
-/// Writes the clock of the event at which a cursor stands as that of channel `c`. Where it is alike, it is that of the channel before.
-fn feed_clock(cursor: &Cursor, alike: bool, channels: usize, c: usize, needs: &mut Needs)
+/// Makes the clock of channel `c` that of the event at which a cursor stands. Where channel `beside` is given, it has this clock.
+fn feed_clock(cursor: &Cursor, beside: Option<usize>, channels: usize, c: usize, needs: &mut Needs)
     requires stands { (t : Trace) × (j : ℕ) × Stands cursor.now t j × (channels ≡ length t.channels) }
-    requires before { alike ≡ true → 1 ≤ c }
+    requires beside { IfSome beside (λ b. b < channels) }
     requires channel { c < channels }
-    requires few { channels ≤ 128 }
     requires places { length needs.old ≡ channels * channels }
-    ensures here { (t : Trace) (j p : ℕ) (packet : Packet) → (alike ≡ true → IsClockBefore t cursor.now channels c needs.old)
+    ensures here { (t : Trace) (j p : ℕ) (packet : Packet) → IfSome beside (IsClockAt t cursor.now channels needs.old)
         → Stands cursor.now t j → channels ≡ length t.channels → IsNth (does cursor.now.kind cursor.now.channel) t.packets j p packet
         → (d : ℕ) → d < channels → slice_index needs.new (channels * c + d) ≡ clock t.packets p d }
     ensures others { (d e : ℕ) → d ≢ c → e < channels
         → slice_index needs.new (channels * d + e) ≡ slice_index needs.old (channels * d + e) }
     ensures places { length needs.new ≡ channels * channels }
 {
-    if alike {
-        needs.share(c, c - 1);
-    } else {
-        let number = |d: usize| -> u32
-            requires { (t : Trace) × (j : ℕ) × Stands cursor.now t j × (d < length t.channels) }
-            ensures { (t : Trace) (j p : ℕ) (packet : Packet) → Stands cursor.entry.now t j → d < length t.channels
-                → IsNth (does cursor.entry.now.kind cursor.entry.now.channel) t.packets j p packet → result ≡ clock t.packets p d }
-        { cursor.need(d) };
-        needs.write(c, number);
+    match beside {
+        Some(b) => needs.share(c, b),
+        None => {
+            let need = |d: usize| -> u32
+                requires { (t : Trace) × (j : ℕ) × Stands cursor.now t j × (d < length t.channels) }
+                ensures { (t : Trace) (j p : ℕ) (packet : Packet) → Stands cursor.entry.now t j → d < length t.channels
+                    → IsNth (does cursor.entry.now.kind cursor.entry.now.channel) t.packets j p packet → result ≡ clock t.packets p d }
+            { cursor.need(d) };
+            needs.write(c, need);
+        }
     }
 }
 
@@ -92,17 +79,23 @@ fn write_content(cursor: &Cursor, ports: usize, contents: &mut Numbers, at: usiz
     copy_content(cursor, ports, contents.as_mut_slice(), at);
 }
 
-/// Feeds the event at which a cursor stands as that of channel `c`: whether there is one, and its clock, which is that of the channel
-/// before where it is alike. Gives whether there is.
-fn feed_event(cursor: &Cursor, alike: bool, channels: usize, c: usize, feed: &mut Feed) -> bool
+/// Feeds the event at which a cursor stands as that of channel `c`: whether there is one, and its clock, which channel `beside` has where one is
+/// given. Gives whether there is.
+fn feed_event(
+    cursor: &Cursor,
+    beside: Option<usize>,
+    channels: usize,
+    c: usize,
+    feed: &mut Feed,
+) -> bool
     requires stands { (t : Trace) × (j : ℕ) × Stands cursor.now t j × (channels ≡ length t.channels) }
-    requires before { alike ≡ true → 1 ≤ c }
+    requires beside { IfSome beside (λ b. b < channels) }
     requires channel { c < channels }
     requires few { channels ≤ 128 }
     requires needs { length feed.old.needs ≡ channels * channels }
     ensures more { has feed.new.more c ≡ result }
     ensures there { (t : Trace) (j : ℕ) → Stands cursor.now t j → IsTrue result ↔ (j < count cursor.now.kind cursor.now.channel t.packets) }
-    ensures need { (t : Trace) (j p : ℕ) (packet : Packet) → (alike ≡ true → IsClockBefore t cursor.now channels c feed.old.needs)
+    ensures need { (t : Trace) (j p : ℕ) (packet : Packet) → IfSome beside (IsClockAt t cursor.now channels feed.old.needs)
         → Stands cursor.now t j → channels ≡ length t.channels
         → IsNth (does cursor.now.kind cursor.now.channel) t.packets j p packet
         → (d : ℕ) → d < channels → need_of channels feed.new c d ≡ clock t.packets p d }
@@ -116,75 +109,87 @@ fn feed_event(cursor: &Cursor, alike: bool, channels: usize, c: usize, feed: &mu
     if !more {
         return false;
     }
-    feed_clock(cursor, alike, channels, c, &mut feed.needs);
+    feed_clock(cursor, beside, channels, c, &mut feed.needs);
     true
 }
 
-/// Feeds the start at which a cursor stands as that of channel `c`, whose contents begin at place `at`. Where it is alike, its clock is
-/// that of the channel before.
+/// Feeds the start at which a cursor stands as that of channel `c`, whose contents begin at place `at`. Where channel `beside` is given, it has the
+/// start's clock.
 fn feed_start(
     cursor: &Cursor,
-    alike: bool,
+    beside: Option<usize>,
     channels: &[Channel],
     c: usize,
     at: usize,
     feed: &mut Feed,
 )
-    requires before { alike ≡ true → 1 ≤ c }
+    requires beside { IfSome beside (λ b. b < length channels.now) }
     requires channel { c < length channels.now }
     requires few { length channels.now ≤ 128 }
     requires stands { (t : Trace) × (n : ℕ) × IsBehind t Kind.Start c n cursor.now × (t.channels ≡ channels.now) }
     requires over { IsFeedOver channels.now feed.old }
     requires place { at ≡ length (all_widths (take c channels.now)) }
     ensures over { IsFeedOver channels.now feed.new }
-    ensures here { (t : Trace) (n : ℕ) → (alike ≡ true → IsClockBefore t cursor.now (length channels.now) c feed.old.needs)
+    ensures here { (t : Trace) (n : ℕ) → IfSome beside (IsClockAt t cursor.now (length channels.now) feed.old.needs)
         → IsBehind t Kind.Start c n cursor.now → t.channels ≡ channels.now
         → IsFeedAt channels.now t.packets Kind.Start c n feed.new }
     ensures others { (d : ℕ) → d ≢ c → IsSameAt channels.now d feed.old feed.new }
 {
-    if feed_event(cursor, alike, channels.len(), c, feed) {
+    if feed_event(cursor, beside, channels.len(), c, feed) {
         let ports = channels[c].widths.len();
         write_content(cursor, ports, &mut feed.contents, at);
     }
 }
 
-/// Feeds the completion at which a cursor stands as that of channel `c`. Where it is alike, its clock is that of the channel before.
-fn feed_end(cursor: &Cursor, alike: bool, channels: &[Channel], c: usize, feed: &mut Feed)
-    requires before { alike ≡ true → 1 ≤ c }
+/// Feeds the completion at which a cursor stands as that of channel `c`. Where channel `beside` is given, it has the completion's clock.
+fn feed_end(cursor: &Cursor, beside: Option<usize>, channels: &[Channel], c: usize, feed: &mut Feed)
+    requires beside { IfSome beside (λ b. b < length channels.now) }
     requires channel { c < length channels.now }
     requires few { length channels.now ≤ 128 }
     requires stands { (t : Trace) × (n : ℕ) × IsBehind t Kind.End c n cursor.now × (t.channels ≡ channels.now) }
     requires over { IsFeedOver channels.now feed.old }
     ensures over { IsFeedOver channels.now feed.new }
-    ensures here { (t : Trace) (n : ℕ) → (alike ≡ true → IsClockBefore t cursor.now (length channels.now) c feed.old.needs)
+    ensures here { (t : Trace) (n : ℕ) → IfSome beside (IsClockAt t cursor.now (length channels.now) feed.old.needs)
         → IsBehind t Kind.End c n cursor.now → t.channels ≡ channels.now
         → IsFeedAt channels.now t.packets Kind.End c n feed.new }
     ensures others { (d : ℕ) → d ≢ c → IsSameAt channels.now d feed.old feed.new }
 {
-    feed_event(cursor, alike, channels.len(), c, feed);
+    feed_event(cursor, beside, channels.len(), c, feed);
 }
 
-/// Whether the next event of the channel before channel `c`, where there is one, is in the packet of the event at which a cursor stands.
-fn is_alike(cursors: &Cursors, channels: &[Channel], c: usize, cursor: &Cursor) -> bool
-    requires channel { c < length channels.now }
+/// A channel of `fed` whose next event is in the packet of the one at which a cursor stands, where there is one. Of channels whose clocks stand
+/// together the lowest is asked.
+fn beside(
+    cursors: &Cursors,
+    channels: &[Channel],
+    needs: &Needs,
+    fed: u128,
+    cursor: &Cursor,
+) -> Option<usize>
+    requires fed { fed < 2 ^ length channels.now }
+    requires needs { length needs.now ≡ length channels.now * length channels.now }
     requires stands { (t : Trace) × (have : ℕ → ℕ) × AreBehind t have cursors.now × (t.channels ≡ channels.now) }
-    ensures before { result ≡ true → 1 ≤ c }
-    ensures clock { result ≡ true → (t : Trace) (have : ℕ → ℕ) (feed : OneFeed) → AreBehind t have cursors.now → t.channels ≡ channels.now
-        → IsFedBefore channels.now t.packets have c feed → IsClockBefore t cursor.now (length channels.now) c feed.needs }
+    ensures fed { IfSome result (λ b. has fed b ≡ true) }
+    ensures packet { IfSome result (λ b. (t : Trace) (have : ℕ → ℕ) → AreBehind t have cursors.now → t.channels ≡ channels.now
+        → IsBeside t have cursor.now b) }
 {
-    if c == 0 {
-        return false;
+    let mut left = fed;
+    'left: while let Some((b, _others)) = lowest(left) {
+        let kind = kind_of(channels[b].dir);
+        if cursor.is_beside(cursor_of(cursors, kind, b)) {
+            return Some(b);
+        }
+        left = without(left, needs.together(b));
     }
-    let before = c - 1;
-    cursor.is_beside(cursor_of(cursors, kind_of(channels[before].dir), before))
+    None
 }
 
-/// Feeds the next event of channel `c`, which has this direction and whose contents begin at place `at`.
+/// Feeds the next event of channel `c`, whose contents begin at place `at`. The channels that `left` names aren't fed yet.
 fn feed_channel(
     cursors: &Cursors,
     channels: &[Channel],
+    left: u128,
     c: usize,
-    dir: Dir,
     at: usize,
     feed: &mut Feed,
 )
@@ -195,24 +200,25 @@ fn feed_channel(
     requires place { at ≡ length (all_widths (take c channels.now)) }
     ensures over { IsFeedOver channels.now feed.new }
     ensures here { (t : Trace) (have : ℕ → ℕ) → AreBehind t have cursors.now → t.channels ≡ channels.now
-        → IsFedBefore channels.now t.packets have c feed.old → IsFeedAt channels.now t.packets (kind_of dir) c (have c) feed.new }
+        → IsFeedBut left channels.now t.packets have feed.old → IsChannelFed channels.now t.packets have c feed.new }
     ensures others { (d : ℕ) → d ≢ c → IsSameAt channels.now d feed.old feed.new }
 {
+    let dir = channels[c].dir;
     let cursor = cursor_of(cursors, kind_of(dir), c);
-    let alike = is_alike(cursors, channels, c, cursor);
+    let fed = without(feed.more, left);
+    let beside = beside(cursors, channels, &feed.needs, fed, cursor);
     match dir {
-        Dir::Inward => feed_start(cursor, alike, channels, c, at, feed),
-        Dir::Outward => feed_end(cursor, alike, channels, c, feed),
+        Dir::Inward => feed_start(cursor, beside, channels, c, at, feed),
+        Dir::Outward => feed_end(cursor, beside, channels, c, feed),
     }
 }
 
-/// Feeds the next event of channel `c` where `which` names it.
+/// Feeds the next event of channel `c` where it isn't fed yet. `left` names the channels that aren't.
 fn feed_named(
     cursors: &Cursors,
     channels: &[Channel],
-    which: u128,
+    left: u128,
     c: usize,
-    dir: Dir,
     at: usize,
     feed: &mut Feed,
 )
@@ -223,16 +229,15 @@ fn feed_named(
     requires place { at ≡ length (all_widths (take c channels.now)) }
     ensures over { IsFeedOver channels.now feed.new }
     ensures here { (t : Trace) (have : ℕ → ℕ) → AreBehind t have cursors.now → t.channels ≡ channels.now
-        → IsFedBefore channels.now t.packets have c feed.old → has which c ≡ true
-        → IsFeedAt channels.now t.packets (kind_of dir) c (have c) feed.new }
-    ensures others { (d : ℕ) → (d ≢ c) ⊎ (has which d ≡ false) → IsSameAt channels.now d feed.old feed.new }
+        → IsFeedBut left channels.now t.packets have feed.old → has left c ≡ true → IsChannelFed channels.now t.packets have c feed.new }
+    ensures others { (d : ℕ) → (d ≢ c) ⊎ (has left d ≡ false) → IsSameAt channels.now d feed.old feed.new }
 {
-    if names(which, c) {
-        feed_channel(cursors, channels, c, dir, at, feed);
+    if names(left, c) {
+        feed_channel(cursors, channels, left, c, at, feed);
     }
 }
 
-/// Feeds the next event of each channel that `which` names: bit c is channel c.
+/// Feeds the next event of each channel that `which` names: bit c is channel c. Those that it doesn't name are fed.
 fn fill(cursors: &Cursors, channels: &[Channel], which: u128, feed: &mut Feed)
     requires table { IsTable channels.now }
     requires stands { (t : Trace) × (have : ℕ → ℕ) × AreBehind t have cursors.now × (t.channels ≡ channels.now) }
@@ -241,10 +246,12 @@ fn fill(cursors: &Cursors, channels: &[Channel], which: u128, feed: &mut Feed)
     ensures feed { (t : Trace) (have : ℕ → ℕ) → AreBehind t have cursors.now → t.channels ≡ channels.now
         → IsFeedBut which channels.now t.packets have feed.old → IsFeed channels.now t.packets have feed.new }
 {
+    let mut left = which;
     let mut at = 0;
     for (c, channel) in channels.iter().enumerate() {
         let ports = channel.widths.len();
-        feed_named(cursors, channels, which, c, channel.dir, at, feed);
+        feed_named(cursors, channels, left, c, at, feed);
+        left = with_bit_as(left, c, false);
         at += ports;
     }
 }

@@ -5,6 +5,7 @@
 //! some channels), `Lists` (what the lists of *End of replay* are made of) and `Laws`.
 #![tactic(auto)]
 
+mod bits;
 mod cursors;
 mod feeding;
 mod laws;

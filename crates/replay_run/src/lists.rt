@@ -209,10 +209,10 @@ fn list_held(
 /// The next event of channel `c`: a start while it is idle, else the completion.
 fn next_event(have: &Clock, last: &Row, c: usize) -> Event
     requires { c < length have.now }
-    ensures kind { result.kind ≢ Kind.Reset }
     ensures channel { result.channel ≡ c }
     ensures index { result.index ≡ slice_index have.now c }
     ensures epoch { result.epoch ≡ 0 }
+    ensures kind { result.kind ≢ Kind.Reset }
     ensures next { (n : ℕ) (rows : List OneRow) → IsKept n rows have.now last.now → c < n → result ≡ next_event rows c }
 {
     let kind = if is_in_flight(last, c) {

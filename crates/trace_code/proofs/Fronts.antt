@@ -15,7 +15,8 @@ use Rattle.trace_code.specs.declared.error.CodeError.TheVariants.{BadTrace, Memo
 use Rattle.trace_code.specs.Encoding.{header_bytes, packet_bytes, end_mark, encode, HasEncoding}
 use Rattle.trace_code.specs.Decoding.{Splits, SplitsLongest, HasNoHeader}
 use Rattle.trace_code.specs.Salvage.{Salvages, OneSalvage, front, front_len, LieWhole, FrontIsSalvaged}
-use Rattle.trace_code.proofs.Readings.{GoesOn, ended, encoding-splits, same_trace, same-table, two-splits, one-longest}
+use Rattle.trace_code.proofs.Readings.{apart, encoding-splits, same_trace, same-table, two-splits, one-longest}
+use Rattle.trace_code.proofs.Spelled.{GoesOn, ended, packets-few}
 
 -- ---- one way to salvage
 same-salvage : (bytes : List ℕ) (t u : Trace) → Salvages bytes (Ok t) → Salvages bytes (Ok u) → t ≡ u
@@ -56,13 +57,13 @@ record Begins (first all : List Packet) : Type 0 where
   is : first ≡ take (length first) all
 
 begins : (cs : List Channel) (first all : List Packet) (rest : List ℕ) (count : ℕ)
-    → GoesOn cs first all rest (end_mark count) ⊎ GoesOn cs all first (end_mark count) rest → Begins first all
+    → GoesOn (packet_bytes cs) first all rest (end_mark count) ⊎ GoesOn (packet_bytes cs) all first (end_mark count) rest → Begins first all
 begins cs first all rest count (inl g) = record {
   within = omega (arith, ap length g.whole, length-append first g.others);
   is = sym (ap (take (length first)) g.whole ∙ take_at first g.others (length first) refl);
 }
 begins cs first all rest count (inr g) =
-    let same = (ended cs all first count rest g).0 in
+    let same = (ended (packet_bytes cs) (apart cs) all first count rest g).0 in
     record {
       within = omega (arith, ap length same);
       is = same ∙ sym (take_all (length first) all (omega (arith, ap length same)));
@@ -144,16 +145,11 @@ front_is_salvaged t n (Err (BadTrace at)) has l a =
 front_is_salvaged t n (Err Memory) has l a = inl refl
 
 -- ---- no more packets than bytes
-pub packets-few : (cs : List Channel) (ps : List Packet) → length ps ≤ length (flat_map (packet_bytes cs) ps)
-packets-few cs [] = omega arith
-packets-few cs (p ∷ ps) =
-    omega (arith, packets-few cs ps, length-append (packet_bytes cs p) (flat_map (packet_bytes cs) ps))
-
 pub split-few : (bytes : List ℕ) (cs : List Channel) (ps : List Packet) (rest : List ℕ) → Splits bytes cs ps rest
     → length ps ≤ length bytes
 split-few bytes cs ps rest s = omega (
   arith,
-  packets-few cs ps,
+  packets-few (packet_bytes cs) (λ p. omega arith) ps,
   ap length s.parts,
   length-append (header_bytes cs) (flat_map (packet_bytes cs) ps ++ rest),
   length-append (flat_map (packet_bytes cs) ps) rest,

@@ -2,6 +2,7 @@ pub mod Examples
 pub mod Loop
 pub mod Table
 pub mod Names
+pub mod Spelled
 pub mod Readings
 pub mod Fronts
 pub mod Skips

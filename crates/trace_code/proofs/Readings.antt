@@ -1,9 +1,8 @@
 -- No bytes have two readings, and neither has a front of them.
 use Rattle.std.proofs.Common.{◌≡◌, ℕ, ◌+◌, ◌-◌, ◌^◌, ◌<◌, ◌≤◌, ◌⊎◌, List, [], ◌∷◌, ◌++◌, length, All, Ok, Err, inl, inr, ⊎_elim, refl, sym}
-use Rattle.std.proofs.Common.{ap, subst, ◌∙◌, append_assoc, arith}
-use Rattle.std.specs.List.{flat_map, AllByRecursion}
-use Rattle.std.proofs.lemmas.List.{append-nil, get_or_at, length-append, flat_map_more}
-use Rattle.std.proofs.lemmas.List.Elements.{recursion_from_All}
+use Rattle.std.proofs.Common.{ap, subst, ◌∙◌, arith}
+use Rattle.std.specs.List.{flat_map}
+use Rattle.std.proofs.lemmas.List.{append-nil, length-append}
 use Rattle.std.proofs.lemmas.Option.{same_Some}
 use Rattle.vec_clock.specs.trace_model.declared.channel.Channel.{Channel}
 use Rattle.vec_clock.specs.trace_model.declared.packet.Packet.{Packet}
@@ -20,6 +19,7 @@ use Rattle.trace_code.specs.PacketReading.{packet_at, AreAll}
 use Rattle.trace_code.specs.Decoding.{Splits, SplitsLongest, HasNoHeader, IsBehindPackets, OneReading, OnePlace, ReadsBack}
 use Rattle.trace_code.proofs.Table.{header_again}
 use Rattle.trace_code.proofs.PacketLaws.{packet_again}
+use Rattle.trace_code.proofs.Spelled.{EndsNowhere, GoesOn, compared, ended, none-behind}
 
 -- ---- headers
 
@@ -47,50 +47,8 @@ same_packet cs p q xs ys hp hq e =
     let s = same_Some (p, xs) (q, ys) (sym (packet_again cs p xs hp) ∙ ap (packet_at cs) e ∙ packet_again cs q ys hq) in
     (ap (λ (x : Packet × List ℕ). x.0) s, ap (λ (x : Packet × List ℕ). x.1) s)
 
-regroup : (cs : List Channel) (p : Packet) (ps : List Packet) (rest : List ℕ) → flat_map (packet_bytes cs) (p ∷ ps) ++ rest
-    ≡ packet_bytes cs p ++ (flat_map (packet_bytes cs) ps ++ rest)
-regroup cs p ps rest = append_assoc (packet_bytes cs p) (flat_map (packet_bytes cs) ps) rest
-
--- a list of packets goes on where another ends, with what follows each
-pub record GoesOn (cs : List Channel) (front all : List Packet) (rest left : List ℕ) : Type 0 where
-  pub others : List Packet
-  pub whole : all ≡ front ++ others
-  pub parts : rest ≡ flat_map (packet_bytes cs) others ++ left
-
-goes_on-cons : (cs : List Channel) (p q : Packet) (front all : List Packet) (rest left : List ℕ) → p ≡ q → GoesOn cs front all rest left
-    → GoesOn cs (p ∷ front) (q ∷ all) rest left
-goes_on-cons cs p q front all rest left e g = record {
-  others = g.others;
-  whole = ap (λ (x : Packet). x ∷ all) (sym e) ∙ ap (λ (xs : List Packet). p ∷ xs) g.whole;
-  parts = g.parts;
-}
-
--- of two lists of packets in the same bytes one goes on where the other ends
-two-lists : (cs : List Channel) (ps qs : List Packet) (r s : List ℕ) → AllByRecursion (IsPacket cs) ps → AllByRecursion (IsPacket cs) qs
-    → flat_map (packet_bytes cs) ps ++ r ≡ flat_map (packet_bytes cs) qs ++ s → GoesOn cs ps qs r s ⊎ GoesOn cs qs ps s r
-two-lists cs [] qs r s hp hq e = inl (record { others = qs; whole = refl; parts = e })
-two-lists cs (p ∷ ps) [] r s hp hq e = inr (record { others = p ∷ ps; whole = refl; parts = sym e })
-two-lists cs (p ∷ ps) (q ∷ qs) r s hp hq e =
-    let same = same_packet cs p q (flat_map (packet_bytes cs) ps ++ r) (flat_map (packet_bytes cs) qs ++ s) hp.0 hq.0
-    (sym (regroup cs p ps r) ∙ e ∙ regroup cs q qs s) in
-    ⊎_elim
-    (λ (g : GoesOn cs ps qs r s). inl (goes_on-cons cs p q ps qs r s same.0 g))
-    (λ (g : GoesOn cs qs ps s r). inr (goes_on-cons cs q p qs ps s r (sym same.0) g))
-    (two-lists cs ps qs r s hp.1 hq.1 same.1)
-
-pub compared : (cs : List Channel) (ps qs : List Packet) (r s : List ℕ) → All (IsPacket cs) ps → All (IsPacket cs) qs
-    → flat_map (packet_bytes cs) ps ++ r ≡ flat_map (packet_bytes cs) qs ++ s → GoesOn cs ps qs r s ⊎ GoesOn cs qs ps s r
-compared cs ps qs r s hp hq e = two-lists cs ps qs r s (recursion_from_All (IsPacket cs) ps hp) (recursion_from_All (IsPacket cs) qs hq) e
-
--- none goes on where the end of a trace stands
-pub ended : (cs : List Channel) (front all : List Packet) (n : ℕ) (left : List ℕ) → GoesOn cs front all (end_mark n) left → (all ≡ front)
-    × (end_mark n ≡ left)
-ended cs front all n left g = cases g.others g.whole g.parts
-  where
-    cases : (others : List Packet) → all ≡ front ++ others → end_mark n ≡ flat_map (packet_bytes cs) others ++ left → (all ≡ front)
-        × (end_mark n ≡ left)
-    cases [] whole parts = (whole ∙ append-nil front, parts)
-    cases (q ∷ qs) whole parts = absurd cc
+pub apart : (cs : List Channel) → EndsNowhere (packet_bytes cs)
+apart cs p n rest e = absurd cc
 
 -- ---- the whole
 
@@ -114,9 +72,9 @@ same-table bytes cs ds ps qs r s a b = (same_header cs ds (flat_map (packet_byte
     b.table (sym a.parts ∙ b.parts)).0
 
 pub two-splits : (bytes : List ℕ) (cs : List Channel) (ps qs : List Packet) (r s : List ℕ) → Splits bytes cs ps r → Splits bytes cs qs s
-    → GoesOn cs ps qs r s ⊎ GoesOn cs qs ps s r
+    → GoesOn (packet_bytes cs) ps qs r s ⊎ GoesOn (packet_bytes cs) qs ps s r
 two-splits bytes cs ps qs r s a b =
-    compared cs ps qs r s a.each b.each (same_header cs cs (flat_map (packet_bytes cs) ps ++ r) (flat_map (packet_bytes cs) qs ++ s) a.table
+    compared (IsPacket cs) (packet_bytes cs) (same_packet cs) ps qs r s a.each b.each (same_header cs cs (flat_map (packet_bytes cs) ps ++ r) (flat_map (packet_bytes cs) qs ++ s) a.table
     b.table (sym a.parts ∙ b.parts)).1
 
 -- a split of the bytes of a trace whose rest is another end
@@ -127,10 +85,10 @@ one_reading bytes t u a b =
     (encoding-splits u bytes b) in
     let r = subst (λ (cs : List Channel). Splits bytes cs u.packets (end_mark (length u.packets))) (sym c) (encoding-splits u bytes b) in
     same_trace t u c (⊎_elim
-    (λ (g : GoesOn t.channels t.packets u.packets (end_mark (length t.packets)) (end_mark (length u.packets))). sym
-    (ended t.channels t.packets u.packets (length t.packets) (end_mark (length u.packets)) g).0)
-    (λ (g : GoesOn t.channels u.packets t.packets (end_mark (length u.packets)) (end_mark (length t.packets))).
-    (ended t.channels u.packets t.packets (length u.packets) (end_mark (length t.packets)) g).0)
+    (λ (g : GoesOn (packet_bytes t.channels) t.packets u.packets (end_mark (length t.packets)) (end_mark (length u.packets))). sym
+    (ended (packet_bytes t.channels) (apart t.channels) t.packets u.packets (length t.packets) (end_mark (length u.packets)) g).0)
+    (λ (g : GoesOn (packet_bytes t.channels) u.packets t.packets (end_mark (length u.packets)) (end_mark (length t.packets))).
+    (ended (packet_bytes t.channels) (apart t.channels) u.packets t.packets (length u.packets) (end_mark (length t.packets)) g).0)
     (two-splits bytes t.channels t.packets u.packets (end_mark (length t.packets)) (end_mark (length u.packets)) s r))
 
 pub reads_back : ReadsBack
@@ -150,8 +108,8 @@ as-long front all (x ∷ xs) e l = absurd (omega (arith, ap length e, length-app
 pub one-longest : (bytes : List ℕ) (cs : List Channel) (ps qs : List Packet) (r s : List ℕ) → SplitsLongest bytes cs ps r
     → SplitsLongest bytes cs qs s → ps ≡ qs
 one-longest bytes cs ps qs r s a b = ⊎_elim
-    (λ (g : GoesOn cs ps qs r s). sym (as-long ps qs g.others g.whole (a.most qs s b.splits)))
-    (λ (g : GoesOn cs qs ps s r). as-long qs ps g.others g.whole (b.most ps r a.splits))
+    (λ (g : GoesOn (packet_bytes cs) ps qs r s). sym (as-long ps qs g.others g.whole (a.most qs s b.splits)))
+    (λ (g : GoesOn (packet_bytes cs) qs ps s r). as-long qs ps g.others g.whole (b.most ps r a.splits))
     (two-splits bytes cs ps qs r s a.splits b.splits)
 
 both-behind : (bytes : List ℕ) (a b : ℕ) → IsBehindPackets bytes a → IsBehindPackets bytes b → a ≡ b
@@ -173,21 +131,11 @@ one_place bytes a b (inr p) (inl q) = absurd (headed bytes a q.0 p)
 one_place bytes a b (inr p) (inr q) = both-behind bytes a b p q
 
 -- ---- what the code reads
-All-middle : (cs : List Channel) (front : List Packet) (q : Packet) (qs : List Packet) → All (IsPacket cs) (front ++ q ∷ qs) → IsPacket cs q
-All-middle cs front q qs each =
-    subst (IsPacket cs) (get_or_at front q qs q (length front) refl) (each (length front) q (omega (arith, length-append front (q ∷ qs))))
-
 -- behind all packets none goes on
-none-behind : (cs : List Channel) (bytes rest left : List ℕ) (ps qs : List Packet) → AreAll cs bytes ps rest → All (IsPacket cs) qs
-    → Alternates qs → GoesOn cs ps qs rest left → (qs ≡ ps) × (rest ≡ left)
-none-behind cs bytes rest left ps qs all each alternate g = cases g.others g.whole g.parts
-  where
-    cases : (others : List Packet) → qs ≡ ps ++ others → rest ≡ flat_map (packet_bytes cs) others ++ left → (qs ≡ ps) × (rest ≡ left)
-    cases [] whole parts = (whole ∙ append-nil ps, parts)
-    cases (q ∷ others) whole parts =
-        let grouped : qs ≡ (ps ++ q ∷ []) ++ others = whole ∙ sym (append_assoc ps (q ∷ []) others) in
-        absurd (all.last q (flat_map (packet_bytes cs) others ++ left) (All-middle cs ps q others (subst (All (IsPacket cs)) whole each))
-        (alternates-front (ps ++ q ∷ []) others (subst Alternates grouped alternate)) (parts ∙ regroup cs q others left))
+none-more : (cs : List Channel) (bytes rest left : List ℕ) (ps qs : List Packet) → AreAll cs bytes ps rest → All (IsPacket cs) qs
+    → Alternates qs → GoesOn (packet_bytes cs) ps qs rest left → (qs ≡ ps) × (rest ≡ left)
+none-more cs bytes rest left ps qs all each alternate =
+    none-behind (IsPacket cs) (packet_bytes cs) Alternates alternates-front rest left ps qs all.last each alternate
 
 -- the header and all packets behind it
 pub all-split : (cs : List Channel) (bytes body rest : List ℕ) (ps : List Packet) → IsTable cs → bytes ≡ header_bytes cs ++ body
@@ -207,9 +155,9 @@ all-longest cs bytes body rest ps table whole all =
     record {
       splits = mine;
       most = λ more left other. ⊎_elim
-          (λ (g : GoesOn cs ps more rest left). let same = ap length (none-behind cs body rest left ps more all other.each other.alternate
+          (λ (g : GoesOn (packet_bytes cs) ps more rest left). let same = ap length (none-more cs body rest left ps more all other.each other.alternate
           g).0 in omega arith)
-          (λ (g : GoesOn cs more ps left rest). longer more ps g.others g.whole)
+          (λ (g : GoesOn (packet_bytes cs) more ps left rest). longer more ps g.others g.whole)
           (two-splits bytes cs ps more rest left mine other);
     }
 
@@ -222,10 +170,10 @@ no-end cs bytes body rest ps table whole all never t code =
     let c = same-table bytes t.channels cs t.packets ps (end_mark (length t.packets)) rest there mine in
     let moved = subst (λ (ds : List Channel). Splits bytes ds t.packets (end_mark (length t.packets))) c there in
     let same : (t.packets ≡ ps) × (rest ≡ end_mark (length t.packets)) = ⊎_elim
-    (λ (g : GoesOn cs ps t.packets rest (end_mark (length t.packets))). none-behind cs body rest (end_mark (length t.packets)) ps t.packets
+    (λ (g : GoesOn (packet_bytes cs) ps t.packets rest (end_mark (length t.packets))). none-more cs body rest (end_mark (length t.packets)) ps t.packets
     all moved.each moved.alternate g)
-    (λ (g : GoesOn cs t.packets ps (end_mark (length t.packets)) rest).
-    (let e = ended cs t.packets ps (length t.packets) rest g in (sym e.0, sym e.1)))
+    (λ (g : GoesOn (packet_bytes cs) t.packets ps (end_mark (length t.packets)) rest).
+    (let e = ended (packet_bytes cs) (apart cs) t.packets ps (length t.packets) rest g in (sym e.0, sym e.1)))
     (two-splits bytes cs ps t.packets rest (end_mark (length t.packets)) mine moved) in
     never (
       subst (λ (qs : List Packet). length qs < 2 ^ 32) same.0 code.0.few,
@@ -260,14 +208,3 @@ all-encoded cs bytes body rest ps table whole all (few, end) = (
   ap (λ bs. header_bytes cs ++ (flat_map (packet_bytes cs) ps ++ bs)) (sym end) ∙ ap (λ bs. header_bytes cs ++ bs) (sym all.parts)
       ∙ sym whole,
 )
-
--- ---- a loop over packets
--- one packet more
-pub parts-push : (cs : List Channel) (front new : List Packet) (p : Packet) (bytes rest after : List ℕ) → bytes
-    ≡ flat_map (packet_bytes cs) front ++ rest → rest ≡ packet_bytes cs p ++ after → new ≡ front ++ p ∷ []
-    → bytes ≡ flat_map (packet_bytes cs) new ++ after
-parts-push cs front new p bytes rest after parts here push =
-    let spelled : flat_map (packet_bytes cs) new ≡ flat_map (packet_bytes cs) front
-    ++ packet_bytes cs p = ap (flat_map (packet_bytes cs)) push ∙ sym (flat_map_more (packet_bytes cs) [] front p) in
-    parts ∙ ap (λ (t : List ℕ). flat_map (packet_bytes cs) front ++ t) here
-    ∙ sym (append_assoc (flat_map (packet_bytes cs) front) (packet_bytes cs p) after) ∙ ap (λ (t : List ℕ). t ++ after) (sym spelled)

@@ -15,8 +15,8 @@ use Rattle.trace_code.specs.Encoding.{header_bytes, packet_bytes, end_mark}
 use Rattle.trace_code.specs.PacketReading.{numbers_at, packet_at, AreAll}
 use Rattle.trace_code.specs.Salvage.{IsFront}
 use Rattle.trace_code.specs.Skipping.{Follows}
-use Rattle.trace_code.proofs.Readings.{parts-push, all-longest}
-use Rattle.trace_code.proofs.Fronts.{packets-few}
+use Rattle.trace_code.proofs.Readings.{all-longest}
+use Rattle.trace_code.proofs.Spelled.{packets-few, parts-push}
 use Rattle.trace_code.proofs.PacketLaws.{packet_again}
 
 -- ---- one packet
@@ -52,7 +52,7 @@ pub skipped-few : (cs : List Channel) (bytes : List ℕ) (count flying : ℕ) (r
 skipped-few cs bytes count flying rest s = omega (
   arith,
   s.counted,
-  packets-few cs s.packets,
+  packets-few (packet_bytes cs) (λ p. omega arith) s.packets,
   ap length s.parts,
   length-append (flat_map (packet_bytes cs) s.packets) rest,
 )
@@ -68,7 +68,7 @@ skipped-on cs bytes count flying after rest others s f =
       each = All-push (IsPacket cs) s.packets f.packet s.each f.lawful;
       alternate = next.0;
       flying = next.1;
-      parts = parts-push cs s.packets (s.packets ++ f.packet ∷ []) f.packet bytes rest others s.parts f.parts refl;
+      parts = parts-push (packet_bytes cs) s.packets (s.packets ++ f.packet ∷ []) f.packet bytes rest others s.parts f.parts refl;
     }
 
 -- with a packet there are fewer bytes
@@ -105,7 +105,7 @@ front-whole cs bytes body rest ps whole table is all len count =
     record {
       salvaged = (rest, all-longest cs bytes body rest ps table is all);
       packets = sym count;
-      few = omega (arith, count, packets-few cs ps, long, length-append header packets);
+      few = omega (arith, count, packets-few (packet_bytes cs) (λ p. omega arith) ps, long, length-append header packets);
       within = omega (arith, len);
       encoded = ap (λ (bs : List ℕ). take whole.len bs ++ end_mark whole.packets) parts
           ∙ ap (λ (bs : List ℕ). bs ++ end_mark whole.packets) (take_at (header ++ packets) rest whole.len long)

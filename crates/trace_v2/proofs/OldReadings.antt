@@ -14,6 +14,7 @@ use Rattle.trace_code.specs.Encoding.{end_mark}
 use Rattle.trace_code.specs.Reading.{AreChannels}
 use Rattle.trace_code.proofs.trace_model_lemmas.FlightLemmas.{alternates-front}
 use Rattle.trace_code.proofs.Readings.{as-long, longer, same_channels, same_trace}
+use Rattle.trace_code.proofs.Spelled.{EndsNowhere, GoesOn, compared, ended, none-behind, packets-few}
 use Rattle.trace_v2.specs.declared.header.TheConstants.{MOST_OLD_CHANNELS}
 use Rattle.trace_v2.specs.Old.{IsOldTable, IsOldPacket, old_magic, old_header_bytes, old_packet_bytes, EncodesOld}
 use Rattle.trace_v2.specs.OldReading.{old_packet_at, AreAllOld}
@@ -40,50 +41,8 @@ same_packet cs p q xs ys hp hq e =
     let s = same_Some (p, xs) (q, ys) (sym (old_packet_again cs p xs hp) ∙ ap (old_packet_at cs) e ∙ old_packet_again cs q ys hq) in
     (ap (λ (x : Packet × List ℕ). x.0) s, ap (λ (x : Packet × List ℕ). x.1) s)
 
-regroup : (cs : List Channel) (p : Packet) (ps : List Packet) (rest : List ℕ) → flat_map (old_packet_bytes cs) (p ∷ ps) ++ rest
-    ≡ old_packet_bytes cs p ++ (flat_map (old_packet_bytes cs) ps ++ rest)
-regroup cs p ps rest = append_assoc (old_packet_bytes cs p) (flat_map (old_packet_bytes cs) ps) rest
-
--- a list of packets goes on where another ends, with what follows each
-pub record GoesOn (cs : List Channel) (front all : List Packet) (rest left : List ℕ) : Type 0 where
-  pub others : List Packet
-  pub whole : all ≡ front ++ others
-  pub parts : rest ≡ flat_map (old_packet_bytes cs) others ++ left
-
-goes_on-cons : (cs : List Channel) (p q : Packet) (front all : List Packet) (rest left : List ℕ) → p ≡ q → GoesOn cs front all rest left
-    → GoesOn cs (p ∷ front) (q ∷ all) rest left
-goes_on-cons cs p q front all rest left e g = record {
-  others = g.others;
-  whole = ap (λ (x : Packet). x ∷ all) (sym e) ∙ ap (λ (xs : List Packet). p ∷ xs) g.whole;
-  parts = g.parts;
-}
-
--- of two lists of packets in the same bytes one goes on where the other ends
-two-lists : (cs : List Channel) (ps qs : List Packet) (r s : List ℕ) → AllByRecursion (IsOldPacket cs) ps → AllByRecursion (IsOldPacket cs) qs
-    → flat_map (old_packet_bytes cs) ps ++ r ≡ flat_map (old_packet_bytes cs) qs ++ s → GoesOn cs ps qs r s ⊎ GoesOn cs qs ps s r
-two-lists cs [] qs r s hp hq e = inl (record { others = qs; whole = refl; parts = e })
-two-lists cs (p ∷ ps) [] r s hp hq e = inr (record { others = p ∷ ps; whole = refl; parts = sym e })
-two-lists cs (p ∷ ps) (q ∷ qs) r s hp hq e =
-    let same = same_packet cs p q (flat_map (old_packet_bytes cs) ps ++ r) (flat_map (old_packet_bytes cs) qs ++ s) hp.0 hq.0
-    (sym (regroup cs p ps r) ∙ e ∙ regroup cs q qs s) in
-    ⊎_elim
-    (λ (g : GoesOn cs ps qs r s). inl (goes_on-cons cs p q ps qs r s same.0 g))
-    (λ (g : GoesOn cs qs ps s r). inr (goes_on-cons cs q p qs ps s r (sym same.0) g))
-    (two-lists cs ps qs r s hp.1 hq.1 same.1)
-
-pub compared : (cs : List Channel) (ps qs : List Packet) (r s : List ℕ) → All (IsOldPacket cs) ps → All (IsOldPacket cs) qs
-    → flat_map (old_packet_bytes cs) ps ++ r ≡ flat_map (old_packet_bytes cs) qs ++ s → GoesOn cs ps qs r s ⊎ GoesOn cs qs ps s r
-compared cs ps qs r s hp hq e = two-lists cs ps qs r s (recursion_from_All (IsOldPacket cs) ps hp) (recursion_from_All (IsOldPacket cs) qs hq) e
-
--- none goes on where the end of a trace stands
-pub ended : (cs : List Channel) (front all : List Packet) (n : ℕ) (left : List ℕ) → GoesOn cs front all (end_mark n) left → (all ≡ front)
-    × (end_mark n ≡ left)
-ended cs front all n left g = cases g.others g.whole g.parts
-  where
-    cases : (others : List Packet) → all ≡ front ++ others → end_mark n ≡ flat_map (old_packet_bytes cs) others ++ left → (all ≡ front)
-        × (end_mark n ≡ left)
-    cases [] whole parts = (whole ∙ append-nil front, parts)
-    cases (q ∷ qs) whole parts = absurd cc
+apart : (cs : List Channel) → EndsNowhere (old_packet_bytes cs)
+apart cs p n rest e = absurd cc
 
 -- ---- the whole
 
@@ -104,9 +63,9 @@ same-table bytes cs ds ps qs r s a b = (same_old_header cs ds (flat_map (old_pac
     b.table (sym a.parts ∙ b.parts)).0
 
 pub two-splits : (bytes : List ℕ) (cs : List Channel) (ps qs : List Packet) (r s : List ℕ) → SplitsOld bytes cs ps r → SplitsOld bytes cs qs s
-    → GoesOn cs ps qs r s ⊎ GoesOn cs qs ps s r
+    → GoesOn (old_packet_bytes cs) ps qs r s ⊎ GoesOn (old_packet_bytes cs) qs ps s r
 two-splits bytes cs ps qs r s a b =
-    compared cs ps qs r s a.each b.each (same_old_header cs cs (flat_map (old_packet_bytes cs) ps ++ r) (flat_map (old_packet_bytes cs) qs ++ s) a.table
+    compared (IsOldPacket cs) (old_packet_bytes cs) (same_packet cs) ps qs r s a.each b.each (same_old_header cs cs (flat_map (old_packet_bytes cs) ps ++ r) (flat_map (old_packet_bytes cs) qs ++ s) a.table
     b.table (sym a.parts ∙ b.parts)).1
 
 -- a split of the bytes of a trace whose rest is another end
@@ -117,18 +76,18 @@ one_old_reading bytes t u a b =
     (encoding-splits u bytes b) in
     let r = subst (λ (cs : List Channel). SplitsOld bytes cs u.packets (end_mark (length u.packets))) (sym c) (encoding-splits u bytes b) in
     same_trace t u c (⊎_elim
-    (λ (g : GoesOn t.channels t.packets u.packets (end_mark (length t.packets)) (end_mark (length u.packets))). sym
-    (ended t.channels t.packets u.packets (length t.packets) (end_mark (length u.packets)) g).0)
-    (λ (g : GoesOn t.channels u.packets t.packets (end_mark (length u.packets)) (end_mark (length t.packets))).
-    (ended t.channels u.packets t.packets (length u.packets) (end_mark (length t.packets)) g).0)
+    (λ (g : GoesOn (old_packet_bytes t.channels) t.packets u.packets (end_mark (length t.packets)) (end_mark (length u.packets))). sym
+    (ended (old_packet_bytes t.channels) (apart t.channels) t.packets u.packets (length t.packets) (end_mark (length u.packets)) g).0)
+    (λ (g : GoesOn (old_packet_bytes t.channels) u.packets t.packets (end_mark (length u.packets)) (end_mark (length t.packets))).
+    (ended (old_packet_bytes t.channels) (apart t.channels) u.packets t.packets (length u.packets) (end_mark (length t.packets)) g).0)
     (two-splits bytes t.channels t.packets u.packets (end_mark (length t.packets)) (end_mark (length u.packets)) s r))
 
 -- ---- the place of a fault
 pub one-longest : (bytes : List ℕ) (cs : List Channel) (ps qs : List Packet) (r s : List ℕ) → SplitsOldLongest bytes cs ps r
     → SplitsOldLongest bytes cs qs s → ps ≡ qs
 one-longest bytes cs ps qs r s a b = ⊎_elim
-    (λ (g : GoesOn cs ps qs r s). sym (as-long ps qs g.others g.whole (a.most qs s b.splits)))
-    (λ (g : GoesOn cs qs ps s r). as-long qs ps g.others g.whole (b.most ps r a.splits))
+    (λ (g : GoesOn (old_packet_bytes cs) ps qs r s). sym (as-long ps qs g.others g.whole (a.most qs s b.splits)))
+    (λ (g : GoesOn (old_packet_bytes cs) qs ps s r). as-long qs ps g.others g.whole (b.most ps r a.splits))
     (two-splits bytes cs ps qs r s a.splits b.splits)
 
 both-behind : (bytes : List ℕ) (a b : ℕ) → IsBehindOldPackets bytes a → IsBehindOldPackets bytes b → a ≡ b
@@ -150,21 +109,11 @@ one_old_place bytes a b (inr p) (inl q) = absurd (headed bytes a q.0 p)
 one_old_place bytes a b (inr p) (inr q) = both-behind bytes a b p q
 
 -- ---- what the code reads
-All-middle : (cs : List Channel) (front : List Packet) (q : Packet) (qs : List Packet) → All (IsOldPacket cs) (front ++ q ∷ qs) → IsOldPacket cs q
-All-middle cs front q qs each =
-    subst (IsOldPacket cs) (get_or_at front q qs q (length front) refl) (each (length front) q (omega (arith, length-append front (q ∷ qs))))
-
 -- behind all packets none goes on
-none-behind : (cs : List Channel) (bytes rest left : List ℕ) (ps qs : List Packet) → AreAllOld cs bytes ps rest → All (IsOldPacket cs) qs
-    → Alternates qs → GoesOn cs ps qs rest left → (qs ≡ ps) × (rest ≡ left)
-none-behind cs bytes rest left ps qs all each alternate g = cases g.others g.whole g.parts
-  where
-    cases : (others : List Packet) → qs ≡ ps ++ others → rest ≡ flat_map (old_packet_bytes cs) others ++ left → (qs ≡ ps) × (rest ≡ left)
-    cases [] whole parts = (whole ∙ append-nil ps, parts)
-    cases (q ∷ others) whole parts =
-        let grouped : qs ≡ (ps ++ q ∷ []) ++ others = whole ∙ sym (append_assoc ps (q ∷ []) others) in
-        absurd (all.last q (flat_map (old_packet_bytes cs) others ++ left) (All-middle cs ps q others (subst (All (IsOldPacket cs)) whole each))
-        (alternates-front (ps ++ q ∷ []) others (subst Alternates grouped alternate)) (parts ∙ regroup cs q others left))
+none-more : (cs : List Channel) (bytes rest left : List ℕ) (ps qs : List Packet) → AreAllOld cs bytes ps rest → All (IsOldPacket cs) qs
+    → Alternates qs → GoesOn (old_packet_bytes cs) ps qs rest left → (qs ≡ ps) × (rest ≡ left)
+none-more cs bytes rest left ps qs all each alternate =
+    none-behind (IsOldPacket cs) (old_packet_bytes cs) Alternates alternates-front rest left ps qs all.last each alternate
 
 -- the header and all packets behind it
 pub all-split : (cs : List Channel) (bytes body rest : List ℕ) (ps : List Packet) → IsOldTable cs → bytes ≡ old_header_bytes cs ++ body
@@ -184,9 +133,9 @@ all-longest cs bytes body rest ps table whole all =
     record {
       splits = mine;
       most = λ more left other. ⊎_elim
-          (λ (g : GoesOn cs ps more rest left). let same = ap length (none-behind cs body rest left ps more all other.each other.alternate
+          (λ (g : GoesOn (old_packet_bytes cs) ps more rest left). let same = ap length (none-more cs body rest left ps more all other.each other.alternate
           g).0 in omega arith)
-          (λ (g : GoesOn cs more ps left rest). longer more ps g.others g.whole)
+          (λ (g : GoesOn (old_packet_bytes cs) more ps left rest). longer more ps g.others g.whole)
           (two-splits bytes cs ps more rest left mine other);
     }
 
@@ -199,10 +148,10 @@ no-end cs bytes body rest ps table whole all never t code =
     let c = same-table bytes t.channels cs t.packets ps (end_mark (length t.packets)) rest there mine in
     let moved = subst (λ (ds : List Channel). SplitsOld bytes ds t.packets (end_mark (length t.packets))) c there in
     let same : (t.packets ≡ ps) × (rest ≡ end_mark (length t.packets)) = ⊎_elim
-    (λ (g : GoesOn cs ps t.packets rest (end_mark (length t.packets))). none-behind cs body rest (end_mark (length t.packets)) ps t.packets
+    (λ (g : GoesOn (old_packet_bytes cs) ps t.packets rest (end_mark (length t.packets))). none-more cs body rest (end_mark (length t.packets)) ps t.packets
     all moved.each moved.alternate g)
-    (λ (g : GoesOn cs t.packets ps (end_mark (length t.packets)) rest).
-    (let e = ended cs t.packets ps (length t.packets) rest g in (sym e.0, sym e.1)))
+    (λ (g : GoesOn (old_packet_bytes cs) t.packets ps (end_mark (length t.packets)) rest).
+    (let e = ended (old_packet_bytes cs) (apart cs) t.packets ps (length t.packets) rest g in (sym e.0, sym e.1)))
     (two-splits bytes cs ps t.packets rest (end_mark (length t.packets)) mine moved) in
     never (
       subst (λ (qs : List Packet). length qs < 2 ^ 32) same.0 code.0.few,
@@ -243,17 +192,6 @@ all-encoded cs bytes body rest ps table whole all (few, end) = (
       ∙ sym whole,
 )
 
--- ---- a loop over packets
--- one packet more
-pub parts-push : (cs : List Channel) (front new : List Packet) (p : Packet) (bytes rest after : List ℕ) → bytes
-    ≡ flat_map (old_packet_bytes cs) front ++ rest → rest ≡ old_packet_bytes cs p ++ after → new ≡ front ++ p ∷ []
-    → bytes ≡ flat_map (old_packet_bytes cs) new ++ after
-parts-push cs front new p bytes rest after parts here push =
-    let spelled : flat_map (old_packet_bytes cs) new ≡ flat_map (old_packet_bytes cs) front
-    ++ old_packet_bytes cs p = ap (flat_map (old_packet_bytes cs)) push ∙ sym (flat_map_more (old_packet_bytes cs) [] front p) in
-    parts ∙ ap (λ (t : List ℕ). flat_map (old_packet_bytes cs) front ++ t) here
-    ∙ sym (append_assoc (flat_map (old_packet_bytes cs) front) (old_packet_bytes cs p) after) ∙ ap (λ (t : List ℕ). t ++ after) (sym spelled)
-
 -- ---- one way to salvage
 same-salvage : (bytes : List ℕ) (t u : Trace) → SalvagesOld bytes (Ok t) → SalvagesOld bytes (Ok u) → t ≡ u
 same-salvage bytes t u a b =
@@ -274,16 +212,11 @@ one_old_salvage bytes (Ok t) (Err Memory) _ _ = inr (inl refl)
 one_old_salvage bytes (Err (BadTrace at)) (Err Memory) _ _ = inr (inl refl)
 
 -- ---- no more packets than bytes
-packets-few : (cs : List Channel) (ps : List Packet) → length ps ≤ length (flat_map (old_packet_bytes cs) ps)
-packets-few cs [] = omega arith
-packets-few cs (p ∷ ps) =
-    omega (arith, packets-few cs ps, length-append (old_packet_bytes cs p) (flat_map (old_packet_bytes cs) ps))
-
 pub split-few : (bytes : List ℕ) (cs : List Channel) (ps : List Packet) (rest : List ℕ) → SplitsOld bytes cs ps rest
     → length ps ≤ length bytes
 split-few bytes cs ps rest s = omega (
   arith,
-  packets-few cs ps,
+  packets-few (old_packet_bytes cs) (λ p. omega arith) ps,
   ap length s.parts,
   length-append (old_header_bytes cs) (flat_map (old_packet_bytes cs) ps ++ rest),
   length-append (flat_map (old_packet_bytes cs) ps) rest,

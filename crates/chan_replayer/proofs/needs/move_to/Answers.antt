@@ -1,4 +1,4 @@
-use Rattle.std.proofs.Common.{get_or, set, arith, sym, ap, ◌∙◌}
+use Rattle.std.proofs.Common.{get_or, arith}
 use Rattle.chan_replayer.proofs.Masks.{bit-cut, bit-cut_other, bit-put, bit-put_other}
 use Rattle.chan_replayer.proofs.Places.{moved-users, users-small}
 use Rattle.chan_replayer.proofs.needs.move_to.Goals as goal

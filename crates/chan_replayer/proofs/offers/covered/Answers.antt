@@ -1,4 +1,4 @@
-use Rattle.std.proofs.Common.{◌≡◌, ◌<◌, ◌*◌, ◌^◌, ◌-◌, ℕ, Bool, true, bit_and, length, get_or, sym, subst, ap, refl, ◌∙◌, arith}
+use Rattle.std.proofs.Common.{◌^◌, ◌-◌, ℕ, bit_and, length, get_or, sym, subst, ap, refl, ◌∙◌}
 use Rattle.std.proofs.lemmas.Bool.{false≢true}
 use Rattle.vec_clock.specs.trace_model.Clock.{Covers}
 use Rattle.chan_replayer.specs.Needs.{clock_at}

@@ -1,20 +1,30 @@
-use Rattle.std.proofs.Common.{◌<◌, length, sym, subst, arith, ap, ◌∙◌}
+use Rattle.std.proofs.Common.{◌≡◌, ◌<◌, get_or, length, refl, sym, subst, arith, ap, ◌∙◌}
+use Rattle.std.proofs.lemmas.Option.{same_Some, slice_get_read}
+use Rattle.trace_code.specs.trace_model.declared.channel.Channel.{Channel}
 use Rattle.trace_code.specs.trace_model.declared.channel.Dir.{Dir}
 use Rattle.trace_code.specs.trace_model.declared.event.Kind.{Kind}
 use Rattle.chan_replayer.specs.Feed.{kind_of, IsFeedAt}
 use Rattle.replay_run.specs.Behind.{IsBehind}
-use Rattle.replay_run.proofs.Forward.{controlled-kind}
+use Rattle.replay_run.proofs.Fills.{beside-there, clocks-beside, no-reset}
 use Rattle.replay_run.proofs.feeding.feed_channel.Goals as goal
 
-pub cursor_of-cursor-requires-clause-kind : goal.cursor_of-cursor-requires-clause-kind
-cursor_of-cursor-requires-clause-kind c = controlled-kind c.args.dir c.kind_of.result c.kind_of.ensures
-
-pub cursor_of-cursor-requires-clause-stands : goal.cursor_of-cursor-requires-clause-stands
-cursor_of-cursor-requires-clause-stands c =
+pub cursor_of-cursor-requires : goal.cursor_of-cursor-requires
+cursor_of-cursor-requires c =
     let s = c.requires.stands in
     let e = ap length s.3 in
     let l = c.requires.channel in
-    (s.0, s.1, s.2, omega (arith, e, l))
+    record { kind = λ r. no-reset _ (sym c.kind_of.ensures ∙ r); stands = (s.0, s.1, s.2, omega (arith, e, l)) }
+
+pub beside-beside-requires-clause-fed : goal.beside-beside-requires-clause-fed
+beside-beside-requires-clause-fed c = let m = c.without-fed.ensures.most in let l = c.requires.over.more in omega (arith, m, l)
+
+pub feed_start-requires-clause-beside : goal.feed_start-requires-clause-beside
+feed_start-requires-clause-beside c = beside-there c.args.feed.now.more c.args.left c.without-fed.result (length c.args.channels.now) c.beside-beside.result
+    c.requires.over.more c.without-fed.ensures.each c.beside-beside.ensures.fed
+
+pub feed_end-requires-clause-beside : goal.feed_end-requires-clause-beside
+feed_end-requires-clause-beside c = beside-there c.args.feed.now.more c.args.left c.without-fed.result (length c.args.channels.now) c.beside-beside.result
+    c.requires.over.more c.without-fed.ensures.each c.beside-beside.ensures.fed
 
 pub feed_start-requires-clause-stands : goal.feed_start-requires-clause-stands
 feed_start-requires-clause-stands c =
@@ -39,17 +49,29 @@ feed_end-requires-clause-stands c =
     )
 
 pub returns-in-Inward-clause-here : goal.returns-in-Inward-clause-here
-returns-in-Inward-clause-here c t have are same before =
+returns-in-Inward-clause-here c t have are same but x at =
+    let cs = c.args.channels.now in
+    let y = c.index-channels-c.result in
     let there : c.args.c < length t.channels = (let e = ap length same in let l = c.requires.channel in omega (arith, e, l)) in
-    subst (λ (i : Dir). IsFeedAt c.args.channels.now t.packets (kind_of i) c.args.c (have c.args.c) c.feed_start.new.feed) (sym c.in-Inward.is)
-    (c.feed_start.ensures.here t (have c.args.c) (λ up. c.is_alike-alike.ensures.clock up t have c.args.feed.now are same before)
+    let own : y ≡ x = same_Some y x (sym (slice_get_read cs (length cs) c.args.c y refl c.requires.channel c.index-channels-c.is) ∙ at) in
+    let dir : x.dir ≡ (get_or cs c.args.c y).dir = ap (λ (z : Channel). z.dir) (sym own ∙ c.index-channels-c.is) in
+    subst (λ (i : Dir). IsFeedAt cs t.packets (kind_of i) c.args.c (have c.args.c) c.feed_start.new.feed) (sym (dir ∙ c.in-Inward.is))
+    (c.feed_start.ensures.here t (have c.args.c)
+    (clocks-beside cs t have c.args.feed.now.more c.args.left c.without-fed.result c.args.feed.now c.args.cursors.now c.cursor_of-cursor.result.now c.beside-beside.result same
+    c.requires.over.more c.without-fed.ensures.each but c.beside-beside.ensures.fed c.beside-beside.ensures.packet are)
     (subst (λ (i : Kind). IsBehind t i c.args.c (have c.args.c) c.cursor_of-cursor.result.now) (c.kind_of.ensures ∙ ap kind_of c.in-Inward.is)
     (c.cursor_of-cursor.ensures t have are there)) same)
 
 pub returns-in-Outward-clause-here : goal.returns-in-Outward-clause-here
-returns-in-Outward-clause-here c t have are same before =
+returns-in-Outward-clause-here c t have are same but x at =
+    let cs = c.args.channels.now in
+    let y = c.index-channels-c.result in
     let there : c.args.c < length t.channels = (let e = ap length same in let l = c.requires.channel in omega (arith, e, l)) in
-    subst (λ (i : Dir). IsFeedAt c.args.channels.now t.packets (kind_of i) c.args.c (have c.args.c) c.feed_end.new.feed) (sym c.in-Outward.is)
-    (c.feed_end.ensures.here t (have c.args.c) (λ up. c.is_alike-alike.ensures.clock up t have c.args.feed.now are same before)
+    let own : y ≡ x = same_Some y x (sym (slice_get_read cs (length cs) c.args.c y refl c.requires.channel c.index-channels-c.is) ∙ at) in
+    let dir : x.dir ≡ (get_or cs c.args.c y).dir = ap (λ (z : Channel). z.dir) (sym own ∙ c.index-channels-c.is) in
+    subst (λ (i : Dir). IsFeedAt cs t.packets (kind_of i) c.args.c (have c.args.c) c.feed_end.new.feed) (sym (dir ∙ c.in-Outward.is))
+    (c.feed_end.ensures.here t (have c.args.c)
+    (clocks-beside cs t have c.args.feed.now.more c.args.left c.without-fed.result c.args.feed.now c.args.cursors.now c.cursor_of-cursor.result.now c.beside-beside.result same
+    c.requires.over.more c.without-fed.ensures.each but c.beside-beside.ensures.fed c.beside-beside.ensures.packet are)
     (subst (λ (i : Kind). IsBehind t i c.args.c (have c.args.c) c.cursor_of-cursor.result.now) (c.kind_of.ensures ∙ ap kind_of c.in-Outward.is)
     (c.cursor_of-cursor.ensures t have are there)) same)

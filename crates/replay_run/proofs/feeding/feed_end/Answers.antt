@@ -1,8 +1,9 @@
-use Rattle.std.proofs.Common.{◌≡◌, true, min, length, refl, ap, sym}
+use Rattle.std.proofs.Common.{min, length, refl, ap, sym}
+use Rattle.std.specs.Prelude.{IfSome}
 use Rattle.trace_code.specs.trace_model.declared.event.Kind.TheVariants.{End}
 use Rattle.trace_code.specs.trace_model.declared.trace.Trace.{Trace}
 use Rattle.trace_code.specs.trace_model.Packet.{count}
-use Rattle.replay_run.specs.Feeding.{IsClockBefore}
+use Rattle.replay_run.specs.Feeding.{IsClockAt}
 use Rattle.replay_run.proofs.Fills.{IsEventFed, end-here, event-others, event-over}
 use Rattle.replay_run.proofs.feeding.feed_end.Goals as goal
 
@@ -17,7 +18,7 @@ feed_event-requires-clause-needs c = c.requires.over.needs
 pub returns-clause-over : goal.returns-clause-over
 returns-clause-over c =
     let f = c.feed_event.ensures in
-    let right : Trace → Type 0 = λ t. c.args.alike ≡ true → IsClockBefore t c.args.cursor.now (length c.args.channels.now) c.args.c c.args.feed.now.needs in
+    let right : Trace → Type 0 = λ t. IfSome c.args.beside (IsClockAt t c.args.cursor.now (length c.args.channels.now) c.args.feed.now.needs) in
     let fed : IsEventFed right c.args.cursor.now (length c.args.channels.now) c.args.c c.feed_event.result c.args.feed.now c.feed_event.new.feed =
     record {
       more = f.more;
@@ -34,7 +35,7 @@ returns-clause-over c =
 pub returns-clause-here : goal.returns-clause-here
 returns-clause-here c t i is-right is same =
     let f = c.feed_event.ensures in
-    let right : Trace → Type 0 = λ t. c.args.alike ≡ true → IsClockBefore t c.args.cursor.now (length c.args.channels.now) c.args.c c.args.feed.now.needs in
+    let right : Trace → Type 0 = λ t. IfSome c.args.beside (IsClockAt t c.args.cursor.now (length c.args.channels.now) c.args.feed.now.needs) in
     let fed : IsEventFed right c.args.cursor.now (length c.args.channels.now) c.args.c c.feed_event.result c.args.feed.now c.feed_event.new.feed =
     record {
       more = f.more;
@@ -51,7 +52,7 @@ returns-clause-here c t i is-right is same =
 pub returns-clause-others : goal.returns-clause-others
 returns-clause-others c =
     let f = c.feed_event.ensures in
-    let right : Trace → Type 0 = λ t. c.args.alike ≡ true → IsClockBefore t c.args.cursor.now (length c.args.channels.now) c.args.c c.args.feed.now.needs in
+    let right : Trace → Type 0 = λ t. IfSome c.args.beside (IsClockAt t c.args.cursor.now (length c.args.channels.now) c.args.feed.now.needs) in
     let fed : IsEventFed right c.args.cursor.now (length c.args.channels.now) c.args.c c.feed_event.result c.args.feed.now c.feed_event.new.feed =
     record {
       more = f.more;
@@ -65,5 +66,5 @@ returns-clause-others c =
     event-others right c.args.channels.now c.args.cursor.now (length c.args.channels.now) c.args.c c.feed_event.result c.args.feed.now c.feed_event.new.feed
     refl fed
 
-pub feed_event-requires-clause-before : goal.feed_event-requires-clause-before
-feed_event-requires-clause-before c = c.requires.before
+pub feed_event-requires-clause-beside : goal.feed_event-requires-clause-beside
+feed_event-requires-clause-beside c = c.requires.beside

@@ -1,10 +1,11 @@
-use Rattle.std.proofs.Common.{◌≡◌, true, min, length, refl, ap, sym, ◌∙◌}
+use Rattle.std.proofs.Common.{min, length, refl, ap, sym, ◌∙◌}
+use Rattle.std.specs.Prelude.{IfSome}
 use Rattle.std.proofs.lemmas.Option.{slice_get_read}
 use Rattle.trace_code.specs.trace_model.declared.channel.Channel.{Channel}
 use Rattle.trace_code.specs.trace_model.declared.event.Kind.TheVariants.{Start}
 use Rattle.trace_code.specs.trace_model.declared.trace.Trace.{Trace}
 use Rattle.trace_code.specs.trace_model.Packet.{count}
-use Rattle.replay_run.specs.Feeding.{IsClockBefore}
+use Rattle.replay_run.specs.Feeding.{IsClockAt}
 use Rattle.replay_run.proofs.Fills.{IsEventFed, event-others, event-over, none-here, own-ports, start-here, start-others, start-over, start-room}
 use Rattle.replay_run.proofs.feeding.feed_start.Goals as goal
 
@@ -42,7 +43,7 @@ write_content-requires-clause-room c =
 pub returns-then-feed_event-clause-over : goal.returns-then-feed_event-clause-over
 returns-then-feed_event-clause-over c =
     let f = c.feed_event.ensures in
-    let right : Trace → Type 0 = λ t. c.args.alike ≡ true → IsClockBefore t c.args.cursor.now (length c.args.channels.now) c.args.c c.args.feed.now.needs in
+    let right : Trace → Type 0 = λ t. IfSome c.args.beside (IsClockAt t c.args.cursor.now (length c.args.channels.now) c.args.feed.now.needs) in
     let fed : IsEventFed right c.args.cursor.now (length c.args.channels.now) c.args.c c.feed_event.result c.args.feed.now c.feed_event.new.feed =
     record {
       more = f.more;
@@ -63,7 +64,7 @@ returns-then-feed_event-clause-over c =
 pub returns-then-feed_event-clause-here : goal.returns-then-feed_event-clause-here
 returns-then-feed_event-clause-here c t i is-right is same =
     let f = c.feed_event.ensures in
-    let right : Trace → Type 0 = λ t. c.args.alike ≡ true → IsClockBefore t c.args.cursor.now (length c.args.channels.now) c.args.c c.args.feed.now.needs in
+    let right : Trace → Type 0 = λ t. IfSome c.args.beside (IsClockAt t c.args.cursor.now (length c.args.channels.now) c.args.feed.now.needs) in
     let fed : IsEventFed right c.args.cursor.now (length c.args.channels.now) c.args.c c.feed_event.result c.args.feed.now c.feed_event.new.feed =
     record {
       more = f.more;
@@ -83,7 +84,7 @@ returns-then-feed_event-clause-here c t i is-right is same =
 pub returns-then-feed_event-clause-others : goal.returns-then-feed_event-clause-others
 returns-then-feed_event-clause-others c =
     let f = c.feed_event.ensures in
-    let right : Trace → Type 0 = λ t. c.args.alike ≡ true → IsClockBefore t c.args.cursor.now (length c.args.channels.now) c.args.c c.args.feed.now.needs in
+    let right : Trace → Type 0 = λ t. IfSome c.args.beside (IsClockAt t c.args.cursor.now (length c.args.channels.now) c.args.feed.now.needs) in
     let fed : IsEventFed right c.args.cursor.now (length c.args.channels.now) c.args.c c.feed_event.result c.args.feed.now c.feed_event.new.feed =
     record {
       more = f.more;
@@ -104,7 +105,7 @@ returns-then-feed_event-clause-others c =
 pub returns-else-feed_event-clause-over : goal.returns-else-feed_event-clause-over
 returns-else-feed_event-clause-over c =
     let f = c.feed_event.ensures in
-    let right : Trace → Type 0 = λ t. c.args.alike ≡ true → IsClockBefore t c.args.cursor.now (length c.args.channels.now) c.args.c c.args.feed.now.needs in
+    let right : Trace → Type 0 = λ t. IfSome c.args.beside (IsClockAt t c.args.cursor.now (length c.args.channels.now) c.args.feed.now.needs) in
     let fed : IsEventFed right c.args.cursor.now (length c.args.channels.now) c.args.c c.feed_event.result c.args.feed.now c.feed_event.new.feed =
     record {
       more = f.more;
@@ -121,7 +122,7 @@ returns-else-feed_event-clause-over c =
 pub returns-else-feed_event-clause-here : goal.returns-else-feed_event-clause-here
 returns-else-feed_event-clause-here c t i is-right is same =
     let f = c.feed_event.ensures in
-    let right : Trace → Type 0 = λ t. c.args.alike ≡ true → IsClockBefore t c.args.cursor.now (length c.args.channels.now) c.args.c c.args.feed.now.needs in
+    let right : Trace → Type 0 = λ t. IfSome c.args.beside (IsClockAt t c.args.cursor.now (length c.args.channels.now) c.args.feed.now.needs) in
     let fed : IsEventFed right c.args.cursor.now (length c.args.channels.now) c.args.c c.feed_event.result c.args.feed.now c.feed_event.new.feed =
     record {
       more = f.more;
@@ -138,7 +139,7 @@ returns-else-feed_event-clause-here c t i is-right is same =
 pub returns-else-feed_event-clause-others : goal.returns-else-feed_event-clause-others
 returns-else-feed_event-clause-others c =
     let f = c.feed_event.ensures in
-    let right : Trace → Type 0 = λ t. c.args.alike ≡ true → IsClockBefore t c.args.cursor.now (length c.args.channels.now) c.args.c c.args.feed.now.needs in
+    let right : Trace → Type 0 = λ t. IfSome c.args.beside (IsClockAt t c.args.cursor.now (length c.args.channels.now) c.args.feed.now.needs) in
     let fed : IsEventFed right c.args.cursor.now (length c.args.channels.now) c.args.c c.feed_event.result c.args.feed.now c.feed_event.new.feed =
     record {
       more = f.more;
@@ -152,5 +153,5 @@ returns-else-feed_event-clause-others c =
     event-others right c.args.channels.now c.args.cursor.now (length c.args.channels.now) c.args.c c.feed_event.result c.args.feed.now c.feed_event.new.feed refl
     fed
 
-pub feed_event-requires-clause-before : goal.feed_event-requires-clause-before
-feed_event-requires-clause-before c = c.requires.before
+pub feed_event-requires-clause-beside : goal.feed_event-requires-clause-beside
+feed_event-requires-clause-beside c = c.requires.beside

@@ -1,10 +1,10 @@
-use Rattle.std.proofs.Common.{◌≡◌, ◌≤◌, ◌*◌, ℕ, length, take}
+use Rattle.std.proofs.Common.{◌≡◌, ◌<◌, ◌≤◌, ◌*◌, ℕ, false, length, take}
+use Rattle.trace_code.specs.vidi_bits.Number.{has}
 use Rattle.trace_code.specs.trace_model.declared.trace.Trace.{Trace}
 use Rattle.trace_code.specs.trace_model.Row.{all_widths}
 use Rattle.chan_replayer.specs.Feed.{IsFeedOver}
 use Rattle.replay_run.specs.Behind.{AreBehind}
 use Rattle.replay_run.specs.Feeding.{IsFeedBut}
-use Rattle.replay_run.proofs.Fills.{AreFedBelow}
 use Rattle.replay_run.proofs.feeding.fill.Given as goal
 
 abbrev pub invariant-loop-c : goal.invariant-loop-c
@@ -12,6 +12,7 @@ invariant-loop-c l = record {
   place : l.at ≡ length (all_widths (take l.c l.channels));
   small : l.at ≤ 16 * l.c;
   over : IsFeedOver l.channels l.feed;
+  below : (d : ℕ) → d < l.c → has l.left d ≡ false;
   fed : (t : Trace) (have : ℕ → ℕ) → AreBehind t have l.cursors → t.channels ≡ l.channels → IsFeedBut l.which l.channels t.packets have l.fn.feed
-      → AreFedBelow l.channels t.packets have l.which l.c l.feed;
+      → IsFeedBut l.left l.channels t.packets have l.feed;
 }

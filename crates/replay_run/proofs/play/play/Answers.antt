@@ -3,7 +3,7 @@ use Rattle.std.proofs.lemmas.List.{length_push}
 use Rattle.trace_code.specs.trace_model.declared.row.Row.{Row}
 use Rattle.chan_replayer.specs.run_model.Replay.{done}
 use Rattle.replay_run.specs.Standing.{Plays}
-use Rattle.replay_run.proofs.Forward.{no-reset, table-some}
+use Rattle.replay_run.proofs.Forward.{no-resets}
 use Rattle.replay_run.proofs.Looping.{ends-ended, ends-short, ends-unstable, goes-on, going-push, kept-cells, kept-less}
 use Rattle.replay_run.proofs.Turning.{first}
 use Rattle.replay_run.proofs.play.play.Goals as goal
@@ -31,8 +31,7 @@ returns-then-has_ended-clause-ends g c =
       inv.behind,
       (λ t d s before w same fed is.
           (let at = inv.plays t d s before w same fed is in (
-            ends-ended d c.args.map.now t (g.S.ReplayShell.runs c.loop-cycle.shell) c.loop-cycle.cells.last inv.rows at same
-                (no-reset t (done inv.rows) c.loop-cycle.cursors (inv.behind t w) (table-some t c.args.map.now.channels same c.requires.table)) c.args.cycles
+            ends-ended d c.args.map.now t (g.S.ReplayShell.runs c.loop-cycle.shell) c.loop-cycle.cells.last inv.rows at same (no-resets t (done inv.rows) c.loop-cycle.cursors (inv.behind t w)) c.args.cycles
                 c.loop-cycle.cycle (inv.going t d s before w same fed is) inv.long inv.within c.has_ended.result c.if-has_ended.true
                 (c.has_ended.ensures t (done inv.rows) (inv.behind t w)),
             at,
@@ -51,12 +50,24 @@ returns-in-Some-clause-ends g c =
       (λ t d s before w same fed is.
           (let at = inv.plays t d s before w same fed is in
           let stop = c.in-Some.ensures.stops channel refl d t.packets inv.rows (inv.fed t w same fed) at in (
-            ends-unstable d c.args.map.now t (g.S.ReplayShell.runs c.loop-cycle.shell) c.loop-cycle.cells.last inv.rows at same
-                (no-reset t (done inv.rows) c.loop-cycle.cursors (inv.behind t w) (table-some t c.args.map.now.channels same c.requires.table)) c.args.cycles
+            ends-unstable d c.args.map.now t (g.S.ReplayShell.runs c.loop-cycle.shell) c.loop-cycle.cells.last inv.rows at same (no-resets t (done inv.rows) c.loop-cycle.cursors (inv.behind t w)) c.args.cycles
                 c.loop-cycle.cycle channel (inv.going t d s before w same fed is) inv.long c.loop-cycle-test.true c.has_ended.result
                 c.if-has_ended.false (c.has_ended.ensures t (done inv.rows) (inv.behind t w)) stop.0,
             stop.1,
           ))),
+    )
+
+pub keep-requires-clause-kept : goal.keep-requires-clause-kept
+keep-requires-clause-kept g c =
+    let inv = c.loop-cycle.invariant in
+    let channels = c.args.map.now.channels in
+    let l = c.loop-cycle-test.true in
+    let few = c.requires.few in
+    let long = inv.long in (
+      inv.rows,
+      omega (arith, l, few, long),
+      kept-cells channels 1 inv.rows c.loop-cycle.cells _ refl refl refl c.in_default.ensures.places c.in_default.ensures.over c.in_default.ensures.fresh
+          (kept-less channels (c.args.cycles - c.loop-cycle.cycle) 1 inv.rows c.loop-cycle.cells (omega (arith, l)) inv.kept),
     )
 
 pub loop-cycle-preserved : goal.loop-cycle-preserved
@@ -70,8 +81,7 @@ loop-cycle-preserved g c =
       long = length_push inv.rows row ∙ ap (λ n. n + 1) inv.long;
       within = let l = c.loop-cycle-test.true in omega (arith, l);
       kept = c.keep.ensures.kept inv.rows after
-          (kept-cells m.channels (after + 1) inv.rows c.loop-cycle.cells _ refl refl refl c.in_default.ensures.places c.in_default.ensures.over
-          c.in_default.ensures.fresh
+          (kept-cells m.channels (after + 1) inv.rows c.loop-cycle.cells _ refl refl refl c.in_default.ensures.places c.in_default.ensures.over c.in_default.ensures.fresh
           (kept-less m.channels (c.args.cycles - c.loop-cycle.cycle) (after + 1) inv.rows c.loop-cycle.cells (omega (arith, c.loop-cycle-test.true))
           inv.kept));
       behind = λ t w. c.keep.ensures.behind t inv.rows (inv.behind t w);
@@ -82,7 +92,8 @@ loop-cycle-preserved g c =
           (c.in_default.ensures.on refl d t.packets inv.rows (inv.fed t w same fed) (inv.plays t d s before w same fed is)));
       going = λ t d s before w same fed is. going-push (length m.channels) t.packets inv.rows row (inv.going t d s before w same fed is)
           (goes-on d m t (g.S.ReplayShell.runs c.loop-cycle.shell) c.loop-cycle.cells.last inv.rows (inv.plays t d s before w same fed is) same
-          (no-reset t (done inv.rows) c.loop-cycle.cursors (inv.behind t w) (table-some t m.channels same c.requires.table)) c.has_ended.result c.if-has_ended.false (c.has_ended.ensures t (done inv.rows) (inv.behind t w)));
+          (no-resets t (done inv.rows) c.loop-cycle.cursors (inv.behind t w))
+          c.has_ended.result c.if-has_ended.false (c.has_ended.ensures t (done inv.rows) (inv.behind t w)));
       mapped = c.in_default.ensures.map ∙ inv.mapped;
       cycles = c.in_default.ensures.cycles refl ∙ ap (λ n. n + 1) inv.cycles;
     }
@@ -96,8 +107,7 @@ returns-then-has_ended-2-clause-ends g c =
       inv.behind,
       (λ t d s before w same fed is.
           (let at = inv.plays t d s before w same fed is in (
-            ends-ended d c.args.map.now t (g.S.ReplayShell.runs c.loop-cycle.shell) c.loop-cycle.cells.last inv.rows at same
-                (no-reset t (done inv.rows) c.loop-cycle.cursors (inv.behind t w) (table-some t c.args.map.now.channels same c.requires.table)) c.args.cycles
+            ends-ended d c.args.map.now t (g.S.ReplayShell.runs c.loop-cycle.shell) c.loop-cycle.cells.last inv.rows at same (no-resets t (done inv.rows) c.loop-cycle.cursors (inv.behind t w)) c.args.cycles
                 c.args.cycles (inv.going t d s before w same fed is) (inv.long ∙ all) (omega arith) c.has_ended-2.result c.if-has_ended-2.true
                 (c.has_ended-2.ensures t (done inv.rows) (inv.behind t w)),
             at,
@@ -113,8 +123,7 @@ returns-else-has_ended-2-clause-ends g c =
       inv.behind,
       (λ t d s before w same fed is.
           (let at = inv.plays t d s before w same fed is in (
-            ends-short d c.args.map.now t (g.S.ReplayShell.runs c.loop-cycle.shell) c.loop-cycle.cells.last inv.rows at same
-                (no-reset t (done inv.rows) c.loop-cycle.cursors (inv.behind t w) (table-some t c.args.map.now.channels same c.requires.table)) c.args.cycles
+            ends-short d c.args.map.now t (g.S.ReplayShell.runs c.loop-cycle.shell) c.loop-cycle.cells.last inv.rows at same (no-resets t (done inv.rows) c.loop-cycle.cursors (inv.behind t w)) c.args.cycles
                 (inv.going t d s before w same fed is) (inv.long ∙ all) c.has_ended-2.result c.if-has_ended-2.false
                 (c.has_ended-2.ensures t (done inv.rows) (inv.behind t w)),
             at,

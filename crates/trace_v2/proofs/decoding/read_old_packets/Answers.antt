@@ -1,9 +1,9 @@
 use Rattle.std.proofs.Common.{All, List, subst, sym}
 use Rattle.std.proofs.lemmas.List.Elements.{All-push}
 use Rattle.trace_code.specs.trace_model.declared.packet.Packet.{Packet}
-use Rattle.trace_v2.specs.Old.{IsOldPacket}
+use Rattle.trace_v2.specs.Old.{IsOldPacket, old_packet_bytes}
 use Rattle.trace_code.specs.trace_model.Trace.{Alternates, InFlight}
-use Rattle.trace_v2.proofs.OldReadings.{parts-push}
+use Rattle.trace_code.proofs.Spelled.{parts-push}
 use Rattle.trace_v2.proofs.decoding.read_old_packets.Goals as goal
 
 pub loop-packets-preserved : goal.loop-packets-preserved
@@ -19,6 +19,6 @@ loop-packets-preserved c =
           inv.each found.0);
       alternate = subst Alternates (sym push) next.0;
       flying = subst (λ (ps : List Packet). InFlight ps c.in-Some.after) (sym push) next.1;
-      parts = parts-push c.args.channels.now c.loop-packets.packets c.push.new.self packet c.args.bytes.now c.loop-packets.rest.now
+      parts = parts-push (old_packet_bytes c.args.channels.now) c.loop-packets.packets c.push.new.self packet c.args.bytes.now c.loop-packets.rest.now
           c.in-Some.others.now inv.parts found.1 push;
     }

@@ -1,4 +1,4 @@
-use Rattle.std.proofs.Common.{◌≡◌, ◌<◌, ◌*◌, ℕ, length, get_or, sym, ap, ◌∙◌, arith}
+use Rattle.std.proofs.Common.{◌≡◌, ◌<◌, ◌*◌, length, get_or, sym, ap, ◌∙◌, arith}
 use Rattle.chan_replayer.specs.Needs.{clock_at}
 use Rattle.chan_replayer.proofs.Sharing.{clock-is, place-within, side-is}
 use Rattle.chan_replayer.proofs.needs.Needs.clock.Goals as goal

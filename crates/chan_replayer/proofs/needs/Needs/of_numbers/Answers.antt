@@ -1,5 +1,3 @@
-use Rattle.std.proofs.Common.{◌≡◌}
-use Rattle.chan_replayer.specs.Needs.{all_clocks}
 use Rattle.chan_replayer.proofs.Sharing.{clocks-own}
 use Rattle.chan_replayer.proofs.needs.Needs.of_numbers.Goals as goal
 

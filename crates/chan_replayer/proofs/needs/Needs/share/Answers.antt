@@ -1,4 +1,4 @@
-use Rattle.std.proofs.Common.{◌≡◌, ◌<◌, ◌*◌, ℕ, List, length, get_or, set, sym, subst, ap, refl, ◌∙◌, arith}
+use Rattle.std.proofs.Common.{◌≡◌, ◌<◌, length, get_or, set, sym, subst, ap, refl, ◌∙◌, arith}
 use Rattle.std.specs.List.{refill}
 use Rattle.chan_monitor.proofs.RowOfCycle.{refill-is}
 use Rattle.chan_replayer.specs.Needs.{all_clocks, clock_at, AreUsers}
@@ -57,11 +57,11 @@ returns c =
           ∙ new-here f.places f.users f.clocks c.args.self.now c.move_to.new.users f.clocks n c.args.c p c.self.invariant c.self.view_is long lc used refl
           (λ d l ne. refl) ∙ ap (clock_at n f.clocks) place
           ∙ sym (clock-is f.places f.users f.clocks c.args.self.now n c.self.invariant c.self.view_is long c.args.b lb));
-      others = λ n d long l ne.
+      others = λ n d long ne.
           (let side = side-is f.places f.users f.clocks c.args.self.now n c.self.invariant c.self.view_is long in
           let there = side-is f.places f.users f.clocks c.args.self.now r.0 c.self.invariant c.self.view_is r.1 in
           let lc : c.args.c < n = (let m = r.2 in omega (arith, m, side, there)) in
           ap (λ xs. clock_at n xs d) view
           ∙ new-others f.places f.users f.clocks c.args.self.now c.move_to.new.users f.clocks n c.args.c p c.self.invariant c.self.view_is long lc used refl
-          (λ e m off. refl) d l ne);
+          (λ e m off. refl) d ne);
     }

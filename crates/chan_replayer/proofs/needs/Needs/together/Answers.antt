@@ -1,4 +1,4 @@
-use Rattle.std.proofs.Common.{◌≡◌, ◌<◌, ◌*◌, ℕ, length, get_or, sym, ap, refl, ◌∙◌, arith}
+use Rattle.std.proofs.Common.{◌≡◌, ◌<◌, ℕ, length, get_or, sym, ap, refl, ◌∙◌, arith}
 use Rattle.vec_clock.specs.vidi_bits.Number.{has}
 use Rattle.chan_replayer.specs.Needs.{clock_at}
 use Rattle.chan_replayer.proofs.Sharing.{clock-is, side-is}

@@ -1,8 +1,8 @@
-use Rattle.std.proofs.Common.{◌≡◌, ◌≢◌, ◌⊎◌, ◌<◌, ◌≤◌, ◌+◌, ◌*◌, ℕ, List, length, get_or, set, sym, subst, ap, refl, ◌∙◌, arith}
+use Rattle.std.proofs.Common.{◌≡◌, ◌≢◌, ◌⊎◌, ◌<◌, ◌≤◌, ◌+◌, ◌*◌, ℕ, length, get_or, set, sym, subst, ap, ◌∙◌, arith}
 use Rattle.std.specs.List.{refill}
 use Rattle.chan_monitor.proofs.RowOfCycle.{refill-is}
 use Rattle.chan_replayer.specs.Needs.{all_clocks, clock_at, AreUsers}
-use Rattle.chan_replayer.proofs.Sharing.{apart, clock-within, new-here, new-long, new-others, number-at, place-within, same-clock, side-is}
+use Rattle.chan_replayer.proofs.Sharing.{apart, new-here, new-long, new-others, number-at, place-within, same-clock, side-is}
 use Rattle.chan_replayer.proofs.needs.Needs.write.Goals as goal
 
 pub part-place-requires-clause-channel : goal.part-place-requires-clause-channel
@@ -67,10 +67,10 @@ returns g c =
           ∙ number-at n new p d l in
           subst (λ x. goal.F-post g c.args.number d x) (sym at)
           (subst (λ k. goal.F-post g c.args.number d (get_or new (k * p + d) 0)) many (c.write_clock.ensures.here d (omega (arith, l, many)))));
-      others = λ n d is l ne.
+      others = λ n d is ne.
           (let side = side-is f.places f.users f.clocks c.args.self.now n c.self.invariant c.self.view_is is in
           let lc : c.args.c < n = (let m = r.2 in omega (arith, m, side, there)) in
           ap (λ xs. clock_at n xs d) view
           ∙ new-others f.places f.users f.clocks c.args.self.now c.part-place.new.users new n c.args.c p c.self.invariant c.self.view_is is lc used long
-          (same n is) d l ne);
+          (same n is) d ne);
     }

@@ -3,6 +3,6 @@ use Rattle.replay_run.proofs.cursors.Cursors.advance.Goals as goal
 
 pub returns : goal.returns
 returns c t have is = record {
-  starts = c.forward_vec.ensures t Start have is.starts;
-  ends = c.forward_vec-2.ensures t End have is.ends;
+  starts = c.advance.ensures t Start have is.starts;
+  ends = c.advance-2.ensures t End have is.ends;
 }

@@ -1,1 +1,0 @@
-use Rattle.chan_replayer.proofs.needs.Needs.new.Goals as goal
