@@ -19,7 +19,7 @@ use Rattle.chan_monitor.specs.run_model.Played.{all_up, AreStable}
 use Rattle.chan_monitor.specs.run_model.Run.{AllUp, IsRunRow}
 use Rattle.chan_monitor.specs.run_model.Step.{IsFirst, IsStep}
 use Rattle.chan_monitor.proofs.run_model_lemmas.PlayedLaws.{Grown, played-nil, played-push}
-use Rattle.env_script.specs.script_text.Offer.{Offer, Carries, FitsOffer}
+use Rattle.env_script.specs.Offer.{Offer, Carries, FitsOffer}
 use Rattle.chan_monitor.specs.Shell.{IsShown}
 use Rattle.env_script.specs.Offered.{offers_after, offers_on, AllFit}
 use Rattle.env_script.proofs.OfferLaws.{carries-each}

@@ -13,7 +13,7 @@ use Rattle.chan_monitor.proofs.run_model_lemmas.RunLaws.{kept, one-of_length, ru
 use Rattle.chan_monitor.proofs.run_model_lemmas.Stops.{one-that_ends}
 use Rattle.net_design.specs.declared.design.Design.{Design}
 use Rattle.chan_monitor.specs.chan_map.declared.pins.Map.{Map}
-use Rattle.env_script.specs.script_text.Offer.{Offer}
+use Rattle.env_script.specs.Offer.{Offer}
 use Rattle.env_script.specs.Offered.{offers_after}
 use Rattle.env_script.proofs.Lasting.{offers-fit, offers-stay}
 use Rattle.bench_run.specs.declared.plain.Spot.{Spot}

@@ -4,7 +4,7 @@ use Rattle.env_script.specs.trace_model.declared.row.Row.{Row}
 use Rattle.net_design.specs.declared.design.Design.{Design}
 use Rattle.chan_monitor.specs.chan_map.declared.pins.Map.{Map}
 use Rattle.chan_monitor.specs.run_model.Laws.{ContentsStay, IsReady, OneOfLength}
-use Rattle.env_script.specs.script_text.Offer.{Offer}
+use Rattle.env_script.specs.Offer.{Offer}
 use Rattle.env_script.specs.Offered.{AreLasting}
 use Rattle.bench_run.specs.declared.plain.PlainRun.{PlainRun}
 use Rattle.bench_run.specs.Plain.{IsPlainRun, IsRunAllUp}

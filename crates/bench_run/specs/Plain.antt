@@ -9,7 +9,7 @@ use Rattle.net_design.specs.declared.values.Values.{Values}
 use Rattle.chan_monitor.specs.chan_map.declared.pins.Map.{Map}
 use Rattle.chan_monitor.specs.run_model.Played.{AreStable}
 use Rattle.chan_monitor.specs.run_model.Run.{AllUp, IsRun, IsTheRun}
-use Rattle.env_script.specs.script_text.Offer.{Offer}
+use Rattle.env_script.specs.Offer.{Offer}
 use Rattle.env_script.specs.Offered.{offers_after}
 use Rattle.bench_run.specs.declared.plain.PlainRun.{PlainRun}
 use Rattle.bench_run.specs.declared.plain.Spot.{Spot}

@@ -13,7 +13,7 @@ use Rattle.run_model.proofs.trace_model_lemmas.ContentsLemmas.{fit-length}
 use Rattle.run_model.proofs.trace_model_lemmas.RowLemmas.{first_of, first-more, first-within, replaced-more}
 use Rattle.run_model.specs.Building.{joined}
 use Rattle.run_model.proofs.Contents.{fit-zeros}
-use Rattle.script_text.specs.Offer.{Offer}
+use Rattle.env_script.specs.Offer.{Offer}
 use Rattle.env_script.specs.Offered.{numbers_on, port_numbers, AllFit}
 use Rattle.env_script.proofs.Numbers.{numbers-are}
 

@@ -3,8 +3,8 @@ use Rattle.std.proofs.Common.{ℕ, List, [], ◌∷◌, ◌++◌}
 use Rattle.run_model.specs.trace_model.declared.channel.Channel.{Channel}
 use Rattle.run_model.specs.trace_model.declared.row.Row.{Row}
 use Rattle.run_model.specs.Laws.{OffersFit, OffersStay}
-use Rattle.script_text.specs.Offer.{Offer}
-use Rattle.script_text.proofs.Kept.{all_fit, stays_on}
+use Rattle.env_script.specs.Offer.{Offer}
+use Rattle.env_script.proofs.Kept.{all_fit, stays_on}
 use Rattle.env_script.specs.Laws.{LastingOffers, ScriptLasts}
 use Rattle.env_script.specs.Offered.{offers_after, AreLasting}
 use Rattle.env_script.proofs.OfferLaws.{are-offers, carries-each, stays-offered}

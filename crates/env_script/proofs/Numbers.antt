@@ -8,7 +8,7 @@ use Rattle.run_model.specs.trace_model.declared.channel.Channel.{Channel}
 use Rattle.run_model.specs.trace_model.Packet.{widths_of}
 use Rattle.run_model.proofs.trace_model_lemmas.ContentsLemmas.{fit-length}
 use Rattle.run_model.specs.Offers.{no_content}
-use Rattle.script_text.specs.Offer.{Offer}
+use Rattle.env_script.specs.Offer.{Offer}
 use Rattle.env_script.specs.Offered.{numbers_on, port_numbers, AllFit}
 
 numbers-from : (xs : List ℕ) (k n : ℕ) (at : ℕ → ℕ) → ((i : ℕ) → at (k + i) ≡ get_or xs i 0) → n ≡ length xs

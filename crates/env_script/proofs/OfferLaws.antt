@@ -14,8 +14,8 @@ use Rattle.run_model.specs.trace_model.Packet.{Fit, widths_of}
 use Rattle.run_model.specs.trace_model.Row.{content_at, AreOffers}
 use Rattle.run_model.specs.Offers.{no_content, offered_content, CarriesOn, Carries, AreZeroWhileDown}
 use Rattle.run_model.proofs.Contents.{has-mask, mask-below, fit-joined, content-joined, fit-zeros}
-use Rattle.script_text.specs.Offer.{Offer}
-use Rattle.script_text.specs.Offer as Each
+use Rattle.env_script.specs.Offer.{Offer}
+use Rattle.env_script.specs.Offer as Each
 use Rattle.env_script.specs.Offered.{numbers_on, offers_on, AllFit}
 
 -- ---- the numbers of a content

@@ -3,10 +3,10 @@ use Rattle.std.specs.Prelude.{ℕ, List}
 use Rattle.run_model.specs.trace_model.declared.channel.Channel.{Channel}
 use Rattle.run_model.specs.trace_model.declared.row.Row.{Row}
 use Rattle.run_model.specs.Laws.{OffersFit, OffersStay}
-use Rattle.script_text.specs.declared.script.Script.{Script}
-use Rattle.script_text.specs.Fits.{FitsChannels}
-use Rattle.script_text.specs.Offer.{Offer}
-use Rattle.script_text.specs.ScriptOffer.{script_offer}
+use Rattle.env_script.specs.declared.script.Script.{Script}
+use Rattle.env_script.specs.Fits.{FitsChannels}
+use Rattle.env_script.specs.Offer.{Offer}
+use Rattle.env_script.specs.ScriptOffer.{script_offer}
 use Rattle.env_script.specs.Offered.{offers_after, AreLasting}
 
 -- as the offers of a run they are of the channels, and stay until they are taken

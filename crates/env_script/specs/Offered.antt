@@ -7,7 +7,7 @@ use Rattle.run_model.specs.trace_model.declared.row.Row.{Row}
 use Rattle.run_model.specs.trace_model.Row.{completes}
 use Rattle.run_model.specs.Building.{joined, mask_of}
 use Rattle.run_model.specs.Offers.{no_content}
-use Rattle.script_text.specs.Offer.{Offer, Carries, FitsOffer}
+use Rattle.env_script.specs.Offer.{Offer, Carries, FitsOffer}
 
 -- the numbers on channel c: the content that is offered, else 0 for each port
 abbrev pub numbers_on : List Channel → (ℕ → Offer) → ℕ → List ℕ

@@ -6,7 +6,7 @@ ghost use Rattle.run_model.specs.trace_model.declared.row.Row.{Row};
 ghost use Rattle.run_model.specs.trace_model.Packet.{widths_of};
 ghost use Rattle.run_model.specs.trace_model.Row.{IsOver, completes};
 ghost use Rattle.run_model.specs.trace_model.declared.packet.TheConstants.{MOST_CYCLES};
-ghost use Rattle.script_text.specs.Offer.{Offer, FitsOffer, Carries, EndsAreCompletions};
+ghost use Rattle.env_script.specs.Offer.{Offer, FitsOffer, Carries, EndsAreCompletions};
 
 use run_model::trace_model::Row;
 

@@ -4,16 +4,18 @@ ghost use Rattle.std.proofs.Common.{sym};
 ghost use Rattle.std.specs.Prelude.{◌≡◌, ◌≤◌, ℕ, [], length, replicate, slice_get, slice_index, IfOk};
 ghost use Rattle.std.specs.Option.{option_copied};
 ghost use Rattle.std.proofs.Props.{props};
-ghost use Rattle.script_text.proofs.Props.{step_prop};
-ghost use Rattle.script_text.specs.Fits.{steps_of, FitsChannels};
-ghost use Rattle.script_text.specs.ScriptOffer.{script_offer};
-ghost use Rattle.script_text.specs.Places.{StandsFor, step_at, offer_at};
+ghost use Rattle.trace_model.proofs.ContentsLemmas.{fit_prop};
+ghost use Rattle.env_script.specs.Fits.{steps_of, FitsChannels};
+ghost use Rattle.env_script.specs.Offered.{AreLasting};
+ghost use Rattle.env_script.specs.ScriptOffer.{script_offer};
+ghost use Rattle.env_script.specs.Places.{AllReadWithin, OffersAtPlaces, StandsFor, step_at, offer_at, reads_prop};
 
 use crate::env::Env;
 use run_model::chan_map::Map;
 use run_model::trace_model::{Channels, Row};
 use run_model::vidi_bits::Memory;
-use script_text::{Place, Script, Step, count_ends, move_on};
+use crate::place::{Place, count_ends, move_on};
+use crate::script::{Script, Step};
 use std::alloc::Global;
 
 /// The environment that plays a script: on each channel its steps one after the other.
@@ -27,7 +29,10 @@ pub struct ScriptEnv<'a> {
     done: Vec<u32>,
     /// How many rows were committed.
     cycle: u32,
-    ghost fits: { FitsChannels channels.now script.now } by { Prim.hlevel (props, step_prop) },
+    ghost lists: { length script.now.steps ≡ length channels.now },
+    ghost reads: { (c : ℕ) → AllReadWithin (length channels.now) (steps_of script.now c) } by { Prim.hlevel (props, reads_prop) },
+    ghost offered: { OffersAtPlaces channels.now script.now } by { Prim.hlevel props },
+    ghost lasting: { AreLasting channels.now (script_offer script.now) } by { Prim.hlevel (props, fit_prop) },
     ghost all_places: { length places.items ≡ length channels.now },
     ghost all_done: { length done.items ≡ length channels.now },
     ghost few: { (c : ℕ) → slice_index done.items c ≤ cycle },
@@ -117,8 +122,6 @@ impl<'a> ScriptEnv<'a> {
 impl<'a> Env for ScriptEnv<'a> {
     type Plan = Script;
 
-    ghost use Rattle.script_text.proofs.Kept.{now_is, all_fit, stays_on};
-
     ghost plan = { λ s. s.script.now };
 
     ghost channels = { λ s. s.channels.now };
@@ -131,14 +134,13 @@ impl<'a> Env for ScriptEnv<'a> {
 
     ghost committed = { λ s. s.cycle };
 
-    ghost offers_now = { λ s rows stands c. now_is s.script.now s.channels.now s.places.items s.done.items s.cycle rows s.fits s.all_places
-        stands c };
+    ghost offers_now = { λ s rows stands c. s.offered s.places.items s.done.items s.cycle rows s.all_places stands c };
 
     ghost counts = { λ s rows stands. sym stands.counts.cycle_is };
 
-    ghost fits = { λ s rows c channel at. all_fit s.channels.now s.script.now rows c channel s.fits at };
+    ghost fits = { λ s rows c channel at. s.lasting.fits rows c channel at };
 
-    ghost stays = { λ s rows row c carries up unended. stays_on s.script.now rows row c up unended };
+    ghost stays = { λ s rows row c carries up unended. s.lasting.stays rows row c carries up unended };
 
     fn valid(&self, channel: usize) -> bool {
         matches!(self.step(channel), Some(Step::Send { .. }))

@@ -1,5 +1,6 @@
-//! Tests of what no command prints: rows of runs with all their masks, and shells that are reset. `play_shell` is a caller of any shell,
-//! which shows that the contract of `Shell` says enough.
+//! Tests of what no command prints: rows of runs and of plain runs under scripts with all their masks, shells that are reset, and where an
+//! environment stands after a recording whose push failed. `play_shell` is a caller of any shell, which shows that the contract of `Shell`
+//! says enough.
 #![tactic(auto)]
 
 mod play;
@@ -9,9 +10,10 @@ pub use play::play_shell;
 pub use sends::is_two_sends;
 
 #[cfg(test)]
+mod failing_tests;
+#[cfg(test)]
 mod given;
 #[cfg(test)]
+mod plain_tests;
+#[cfg(test)]
 mod run_tests;
-
-pub use sample_designs;
-pub use sample_designs::net_sim;

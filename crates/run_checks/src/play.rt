@@ -11,7 +11,7 @@ ghost use Rattle.run_reference.specs.run_model.Run.{IsRun};
 ghost use Rattle.run_reference.specs.Given.{offers_by, gates_by};
 ghost use Rattle.run_checks.specs.Playing.{IsTurn};
 
-use chan_monitor::Shell;
+use bench_run::chan_monitor::Shell;
 use run_reference::trace_model::{Channels, Offers, Row, Rows, row_over};
 use run_reference::vidi_bits::Memory;
 use std::alloc::Global;

@@ -10,7 +10,7 @@ ghost use Rattle.sample_designs.specs.Stage.{flick_channels, stage_channels};
 use crate::given::two_sends;
 use crate::play::play_shell;
 use crate::sends::is_two_sends;
-use chan_monitor::{Machines, Shell};
+use bench_run::chan_monitor::{Machines, Shell};
 use run_reference::chan_map::Map;
 use run_reference::run_rows;
 use run_reference::trace_model::{Channels, Offers, Row, Rows};

@@ -7,10 +7,10 @@ use Rattle.net_design.specs.declared.design.Design.{Design}
 use Rattle.vidi_bench.specs.vlog_design.Design.{file_counts}
 use Rattle.bench_run.specs.chan_map.declared.pins.Map.{Map}
 use Rattle.vidi_recorder.specs.room_ledger.Reservation.{need}
-use Rattle.bench_run.specs.script_text.declared.script.Script.{Script}
-use Rattle.bench_run.specs.script_text.declared.stalls.Stalls.{Stalls}
-use Rattle.bench_run.specs.script_text.Reasons.{read_lines}
-use Rattle.bench_run.specs.script_text.Stalls.{ReadsStalls}
+use Rattle.bench_run.specs.env_script.declared.script.Script.{Script}
+use Rattle.bench_run.specs.env_script.declared.stalls.Stalls.{Stalls}
+use Rattle.bench_run.specs.env_script.Reasons.{read_lines}
+use Rattle.bench_run.specs.env_script.Stalls.{ReadsStalls}
 use Rattle.bench_run.specs.declared.plain.Spot.{Spot}
 use Rattle.vidi_recorder.specs.vidi_io.Shelf.{Files}
 use Rattle.vidi_recorder.specs.Course.{sizes_of}

@@ -1,7 +1,7 @@
 -- From a recording into a file to the answer of `record`.
 use Rattle.std.proofs.Common.{◌≡◌, ℕ, List, Option, None, Some, Result, Ok, Err, length, inl, inr, sym, ap, subst, ◌∙◌}
 use Rattle.std.specs.Prelude.{IfOk, IfErr}
-use Rattle.bench_run.specs.script_text.declared.stalls.Stalls.{Stalls}
+use Rattle.bench_run.specs.env_script.declared.stalls.Stalls.{Stalls}
 use Rattle.vidi_recorder.specs.vidi_io.Shelf.{Files}
 use Rattle.vidi_recorder.specs.declared.error.Outcome.{Outcome}
 use Rattle.vidi_recorder.specs.declared.error.Outcome.TheVariants as outcomes

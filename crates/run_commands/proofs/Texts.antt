@@ -2,8 +2,8 @@
 use Rattle.std.proofs.Common.{ℕ, List, Option, Result, Ok, Err, ◌≤◌, inl, inr}
 use Rattle.std.specs.Prelude.{IfOk}
 use Rattle.vidi_recorder.specs.room_ledger.Reservation.{need}
-use Rattle.bench_run.specs.script_text.Reasons.{read_lines}
-use Rattle.bench_run.specs.script_text.Stalls.{ReadsStalls}
+use Rattle.bench_run.specs.env_script.Reasons.{read_lines}
+use Rattle.bench_run.specs.env_script.Stalls.{ReadsStalls}
 use Rattle.vidi_recorder.specs.vidi_io.Shelf.{Files}
 use Rattle.vidi_recorder.specs.Course.{sizes_of}
 use Rattle.vidi_bench.specs.declared.answer.Ended.{Ended}

@@ -6,11 +6,11 @@ use Rattle.bench_run.specs.trace_model.declared.row.Row.{Row}
 use Rattle.bench_run.specs.trace_model.Recording.{packets_of, trace_of}
 use Rattle.vidi_recorder.specs.trace_code.Encoding.{encode}
 use Rattle.vidi_recorder.specs.room_ledger.Reservation.{need}
-use Rattle.bench_run.specs.script_text.declared.error.StallError.TheVariants as errors
-use Rattle.bench_run.specs.script_text.declared.stalls.Stalls.{Stalls}
-use Rattle.bench_run.specs.script_text.Reasons.{read_lines}
-use Rattle.bench_run.specs.script_text.Stalls.{ReadsStalls}
-use Rattle.bench_run.specs.script_text.ScriptOffer.{script_offer}
+use Rattle.bench_run.specs.env_script.declared.error.StallError.TheVariants as errors
+use Rattle.bench_run.specs.env_script.declared.stalls.Stalls.{Stalls}
+use Rattle.bench_run.specs.env_script.Reasons.{read_lines}
+use Rattle.bench_run.specs.env_script.Stalls.{ReadsStalls}
+use Rattle.bench_run.specs.env_script.ScriptOffer.{script_offer}
 use Rattle.vidi_recorder.specs.Course.{Course, course, sizes_of, IsRunOf, IsTheRunOf}
 use Rattle.vidi_recorder.specs.Recording.{IsFrontOfTheRun}
 use Rattle.vidi_bench.specs.report_text.declared.reason.Word.TheVariants as words

@@ -4,8 +4,8 @@ use Rattle.vidi_recorder.specs.vidi_io.Shelf.{Files}
 use Rattle.bench_run.specs.trace_model.declared.row.Row.{Row}
 use Rattle.net_design.specs.declared.design.Design.{Design}
 use Rattle.bench_run.specs.chan_map.declared.pins.Map.{Map}
-use Rattle.bench_run.specs.script_text.declared.script.Script.{Script}
-use Rattle.bench_run.specs.script_text.ScriptOffer.{script_offer}
+use Rattle.bench_run.specs.env_script.declared.script.Script.{Script}
+use Rattle.bench_run.specs.env_script.ScriptOffer.{script_offer}
 use Rattle.bench_run.specs.declared.plain.PlainRun.{PlainRun}
 use Rattle.bench_run.specs.declared.plain.Spot.{Spot}
 use Rattle.bench_run.specs.Plain.{IsPlainRun}

@@ -8,9 +8,9 @@ use Rattle.sample_gen.proofs.vidi_bits_lemmas.Lists.{bytes_eq-self, some_same}
 use Rattle.sample_gen.specs.trace_model.Recording.{trace_of}
 use Rattle.replay_command.specs.trace_code.Encoding.{encode}
 use Rattle.sample_gen.specs.room_ledger.Reservation.{need}
-use Rattle.sample_gen.specs.script_text.declared.stalls.Stalls.{Stalls}
-use Rattle.sample_gen.specs.script_text.Reasons.{read_lines}
-use Rattle.sample_gen.specs.script_text.Stalls.{ReadsStalls}
+use Rattle.sample_gen.specs.env_script.declared.stalls.Stalls.{Stalls}
+use Rattle.sample_gen.specs.env_script.Reasons.{read_lines}
+use Rattle.sample_gen.specs.env_script.Stalls.{ReadsStalls}
 use Rattle.replay_command.specs.vidi_io.declared.mem_shelf.MemShelf.{MemShelf}
 use Rattle.replay_command.specs.vidi_io.Entries.{files_of}
 use Rattle.replay_command.specs.vidi_io.MemShelf.{entries}

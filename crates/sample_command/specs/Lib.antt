@@ -7,7 +7,7 @@ pub use Rattle.replay_command.specs.replay_run as replay_run
 pub use Rattle.sample_gen.specs.room_ledger as room_ledger
 pub use Rattle.replay_command.specs.run_commands as run_commands
 pub use Rattle.sample_gen.specs as sample_gen
-pub use Rattle.sample_gen.specs.script_text as script_text
+pub use Rattle.sample_gen.specs.env_script as env_script
 pub use Rattle.replay_command.specs.trace_code as trace_code
 pub use Rattle.replay_command.specs.trace_commands as trace_commands
 pub use Rattle.replay_command.specs.trace_compare as trace_compare

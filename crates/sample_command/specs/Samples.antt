@@ -7,9 +7,9 @@ use Rattle.replay_command.specs.trace_code.Encoding.{Encodes, encode}
 use Rattle.replay_command.specs.trace_compare.Findings.{findings}
 use Rattle.sample_gen.specs.room_ledger.Reservation.{need}
 use Rattle.sample_gen.specs.trace_model.declared.packet.TheConstants.{MOST_CYCLES}
-use Rattle.sample_gen.specs.script_text.declared.stalls.Stalls.{Stalls}
-use Rattle.sample_gen.specs.script_text.Reasons.{read_lines}
-use Rattle.sample_gen.specs.script_text.Stalls.{ReadsStalls}
+use Rattle.sample_gen.specs.env_script.declared.stalls.Stalls.{Stalls}
+use Rattle.sample_gen.specs.env_script.Reasons.{read_lines}
+use Rattle.sample_gen.specs.env_script.Stalls.{ReadsStalls}
 use Rattle.replay_command.specs.vidi_recorder.Course.{sizes_of, IsTheRunOf}
 use Rattle.replay_command.specs.replay_run.declared.outcome.ReplayOutcome.{ReplayOutcome}
 use Rattle.replay_command.specs.replay_run.declared.outcome.ReplayOutcome.TheVariants as outcomes

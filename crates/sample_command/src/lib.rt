@@ -6,5 +6,5 @@ mod sampling;
 pub use replay_command;
 pub use replay_command::{replay_run, run_commands, trace_code, trace_commands};
 pub use sample_gen;
-pub use sample_gen::script_text;
+pub use sample_gen::env_script;
 pub use sampling::sample;

@@ -1,7 +1,7 @@
 -- The map is bound to each pipe.
 use Rattle.std.proofs.Common.{refl}
-use Rattle.script_text.specs.vidi_lines.Lines.{file_lines, words_between}
-use Rattle.script_text.specs.chan_map.Forms.{keyword_of, form_of}
+use Rattle.env_script.specs.vidi_lines.Lines.{file_lines, words_between}
+use Rattle.env_script.specs.chan_map.Forms.{keyword_of, form_of}
 use Rattle.sample_gen.specs.Accepted.{MapIsBound}
 
 pub map_bound : MapIsBound

@@ -6,11 +6,11 @@ use Rattle.std.specs.Fmt.{digits}
 use Rattle.std.specs.List.{flat_map, list_all, range_with_len, prefix_len}
 use Rattle.std.proofs.lemmas.Bool.{and_parts, false≢true}
 use Rattle.room_ledger.specs.vidi_bits.Findings.{told_if}
-use Rattle.script_text.specs.vidi_lines.declared.lines.Line.{Line}
-use Rattle.script_text.specs.vidi_lines.Lines.{line_unless_bad, is_bad, words_between}
-use Rattle.script_text.specs.Used.{is_blank}
-use Rattle.script_text.specs.Reasons.{read_lines}
-use Rattle.script_text.specs.Stalls.{capacity_in, is_drain, drain_faults, plan_behind, plan_from, plan_faults}
+use Rattle.env_script.specs.vidi_lines.declared.lines.Line.{Line}
+use Rattle.env_script.specs.vidi_lines.Lines.{line_unless_bad, is_bad, words_between}
+use Rattle.env_script.specs.Used.{is_blank}
+use Rattle.env_script.specs.Reasons.{read_lines}
+use Rattle.env_script.specs.Stalls.{capacity_in, is_drain, drain_faults, plan_behind, plan_from, plan_faults}
 use Rattle.sample_gen.specs.Sequence.{drawn}
 use Rattle.sample_gen.specs.Sample.{drain_line, stalls}
 use Rattle.sample_gen.proofs.Taken.{is_line, line_taken, no_lines, each_in, off}

@@ -7,16 +7,16 @@ use Rattle.std.specs.List.{flat_map, list_all, range_with_len, prefix_len}
 use Rattle.std.proofs.lemmas.Bool.{and_parts, false≢true}
 use Rattle.room_ledger.specs.trace_model.Channel.{between}
 use Rattle.room_ledger.specs.vidi_bits.Findings.{told_if}
-use Rattle.script_text.specs.vidi_lines.declared.lines.Line.{Line}
-use Rattle.script_text.specs.vidi_lines.Lines.{file_lines, line_unless_bad, is_bad, words_between}
+use Rattle.env_script.specs.vidi_lines.declared.lines.Line.{Line}
+use Rattle.env_script.specs.vidi_lines.Lines.{file_lines, line_unless_bad, is_bad, words_between}
 use Rattle.room_ledger.specs.trace_model.declared.packet.TheConstants.{MOST_CYCLES}
-use Rattle.script_text.specs.declared.said.StepLine.{StepLine}
-use Rattle.script_text.specs.declared.error.ScriptError.{ScriptError}
-use Rattle.script_text.specs.declared.error.ScriptError.TheVariants as E
-use Rattle.script_text.specs.Used.{is_blank, number_in}
-use Rattle.script_text.specs.Forms.{keyword_of}
-use Rattle.script_text.specs.Reasons.{read_lines, said, is_step, step_faults, all_said, names_channels, fits_numbers, channel_faults, number_faults}
-use Rattle.script_text.specs.Reasons.{faults_behind, faults_from, script_faults}
+use Rattle.env_script.specs.declared.said.StepLine.{StepLine}
+use Rattle.env_script.specs.declared.error.ScriptError.{ScriptError}
+use Rattle.env_script.specs.declared.error.ScriptError.TheVariants as E
+use Rattle.env_script.specs.Used.{is_blank, number_in}
+use Rattle.env_script.specs.Forms.{keyword_of}
+use Rattle.env_script.specs.Reasons.{read_lines, said, is_step, step_faults, all_said, names_channels, fits_numbers, channel_faults, number_faults}
+use Rattle.env_script.specs.Reasons.{faults_behind, faults_from, script_faults}
 use Rattle.sample_gen.specs.Sequence.{drawn}
 use Rattle.sample_gen.specs.Sample.{cycles, send_line, script}
 use Rattle.sample_gen.specs.Accepted.{channels}

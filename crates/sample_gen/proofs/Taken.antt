@@ -4,8 +4,8 @@ use Rattle.std.proofs.Common.{refl, sym, ap, ◌∙◌, arith, ⊎_elim}
 use Rattle.std.specs.List.{slice_split, list_all, range_with_len}
 use Rattle.std.proofs.lemmas.List.Splits.{length-slice_split}
 use Rattle.std.proofs.lemmas.Bool.{and_parts, cases_lt}
-use Rattle.script_text.specs.vidi_lines.Lines.{is_newline, unless_last_empty, file_lines, line_unless_bad}
-use Rattle.script_text.specs.Reasons.{read_lines}
+use Rattle.env_script.specs.vidi_lines.Lines.{is_newline, unless_last_empty, file_lines, line_unless_bad}
+use Rattle.env_script.specs.Reasons.{read_lines}
 
 -- no byte of it ends a line
 abbrev pub is_line : List ℕ → Bool

@@ -8,11 +8,11 @@ use Rattle.net_design.specs.declared.design.Direction.{Direction}
 use Rattle.net_design.specs.declared.design.Direction.TheVariants.{Input, Output}
 use Rattle.net_design.specs.declared.design.Port.{Port}
 use Rattle.net_design.specs.declared.design.Design.{Design}
-use Rattle.script_text.specs.chan_map.Text.{text_faults, all_said, map_lines}
-use Rattle.script_text.specs.chan_map.Bound.{map_faults, table_of}
+use Rattle.env_script.specs.chan_map.Text.{text_faults, all_said, map_lines}
+use Rattle.env_script.specs.chan_map.Bound.{map_faults, table_of}
 use Rattle.room_ledger.specs.Reservation.{need}
-use Rattle.script_text.specs.Reasons.{read_lines, script_faults}
-use Rattle.script_text.specs.Stalls.{plan_faults}
+use Rattle.env_script.specs.Reasons.{read_lines, script_faults}
+use Rattle.env_script.specs.Stalls.{plan_faults}
 use Rattle.sample_gen.specs.declared.generate.TheConstants.{LARGEST}
 use Rattle.sample_gen.specs.Sample.{map_text, script, capacity, stalls}
 

@@ -4,5 +4,5 @@ pub mod Joint
 pub mod Sample
 pub mod Accepted
 pub use Rattle.room_ledger.specs as room_ledger
-pub use Rattle.script_text.specs as script_text
+pub use Rattle.env_script.specs as env_script
 pub use Rattle.room_ledger.specs.trace_model as trace_model

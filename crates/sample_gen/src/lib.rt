@@ -19,4 +19,4 @@ pub use files::Sample;
 pub use generate::{LARGEST, sample};
 pub use laws::{capacities_suffice, map_is_bound, map_is_read, plans_are_read, scripts_are_read};
 pub use room_ledger::{trace_model, vidi_bits};
-pub use script_text;
+pub use env_script;

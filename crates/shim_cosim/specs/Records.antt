@@ -5,8 +5,8 @@ use Rattle.net_design.specs.declared.design.Design.{Design}
 use Rattle.net_design.specs.declared.values.Values.{Values}
 use Rattle.replay_run.specs.chan_map.declared.pins.Map.{Map}
 use Rattle.replay_run.specs.run_model.Laws.{IsReady}
-use Rattle.vidi_recorder.specs.script_text.declared.stalls.Stalls.{Stalls}
-use Rattle.vidi_recorder.specs.script_text.Offer.{Offer}
+use Rattle.vidi_recorder.specs.env_script.declared.stalls.Stalls.{Stalls}
+use Rattle.vidi_recorder.specs.env_script.Offer.{Offer}
 use Rattle.vidi_recorder.specs.env_script.Offered.{AreLasting}
 use Rattle.vidi_recorder.specs.declared.error.Outcome.{Outcome}
 use Rattle.vidi_recorder.specs.Course.{course}

@@ -29,7 +29,7 @@ pub use rewrapped::{RerunShell, Rewrapped};
 pub use shim_gen;
 pub use shim_gen::vidi_lines;
 pub use vidi_recorder;
-pub use vidi_recorder::{env_script, room_ledger, script_text};
+pub use vidi_recorder::{env_script, room_ledger};
 pub use vlog_design;
 pub use vlog_design::vlog_elab;
 pub use wrapped::{RecordShell, Wrapped};

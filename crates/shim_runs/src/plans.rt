@@ -3,7 +3,7 @@
 ghost use Rattle.std.specs.Prelude.{◌≡◌, ◌≤◌, [], false, IfOk, length};
 ghost use Rattle.shim_cosim.specs.trace_model.Channel.{IsTable};
 ghost use Rattle.shim_cosim.specs.trace_model.declared.packet.TheConstants.{MOST_CYCLES};
-ghost use Rattle.shim_cosim.specs.script_text.Fits.{FitsChannels};
+ghost use Rattle.shim_cosim.specs.env_script.Fits.{FitsChannels};
 ghost use Rattle.shim_cosim.specs.room_ledger.Ledger.{empty};
 ghost use Rattle.shim_cosim.specs.vidi_recorder.Course.{sizes_of};
 
@@ -14,7 +14,7 @@ use shim_cosim::chan_map::Map;
 use shim_cosim::chan_monitor::Shell;
 use shim_cosim::env_script::{Env, ScriptEnv, read_script, read_stalls};
 use shim_cosim::room_ledger::Room;
-use shim_cosim::script_text::{Script, Stalls};
+use shim_cosim::env_script::{Script, Stalls};
 use shim_cosim::trace_model::Channels;
 use shim_cosim::vidi_recorder::{Outcome, record_run};
 use std::alloc::Global;

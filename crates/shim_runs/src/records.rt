@@ -7,7 +7,7 @@ ghost use Rattle.net_design.specs.declared.design.Design.{Design as OneDesign};
 ghost use Rattle.shim_cosim.specs.trace_model.Channel.{IsTable};
 ghost use Rattle.shim_cosim.specs.run_model.Building.{PortsAreNets};
 ghost use Rattle.shim_cosim.specs.run_model.MapOf.{IsMapOf};
-ghost use Rattle.shim_cosim.specs.script_text.Fits.{FitsChannels};
+ghost use Rattle.shim_cosim.specs.env_script.Fits.{FitsChannels};
 ghost use Rattle.shim_cosim.specs.Top.{IsWrapOf};
 
 use crate::ended::Ended;

@@ -5,7 +5,7 @@ ghost use Rattle.vlog_tree.specs.Tree.{FileOf};
 ghost use Rattle.vlog_tree.specs.Plain.{plain};
 ghost use Rattle.net_design.specs.declared.design.Design.{Design as OneDesign};
 ghost use Rattle.shim_runs.specs.trace_model.Channel.{IsTable};
-ghost use Rattle.shim_runs.specs.script_text.Fits.{FitsChannels};
+ghost use Rattle.shim_runs.specs.env_script.Fits.{FitsChannels};
 ghost use Rattle.shim_runs.specs.shim_cosim.Top.{IsWrapOf};
 
 use crate::watched::Watched;

@@ -2,11 +2,11 @@
 use Rattle.std.specs.Prelude.{◌≡◌, ℕ, ◌≤◌, List, Option, None, Some, Ok, Err, length}
 use Rattle.report_text.specs.vidi_io.Shelf.{Files}
 use Rattle.env_script.specs.chan_map.declared.pins.Map.{Map}
-use Rattle.env_script.specs.script_text.declared.error.ScriptError.{ScriptError}
-use Rattle.env_script.specs.script_text.declared.error.ScriptError.TheVariants as errors
-use Rattle.env_script.specs.script_text.Reasons.{read_lines}
-use Rattle.env_script.specs.script_text.Fits.{FitsChannels}
-use Rattle.env_script.specs.script_text.Reads.{ReadsScript}
+use Rattle.env_script.specs.declared.error.ScriptError.{ScriptError}
+use Rattle.env_script.specs.declared.error.ScriptError.TheVariants as errors
+use Rattle.env_script.specs.Reasons.{read_lines}
+use Rattle.env_script.specs.Fits.{FitsChannels}
+use Rattle.env_script.specs.Reads.{ReadsScript}
 use Rattle.report_text.specs.declared.reason.Word.TheVariants as words
 use Rattle.report_text.specs.declared.reason.Reason.{Reason}
 use Rattle.report_text.specs.declared.reason.Reason.TheVariants as reasons

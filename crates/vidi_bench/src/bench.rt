@@ -1,8 +1,8 @@
 //! What the files of a design, a map and a script say together.
 
 ghost use Rattle.std.specs.Prelude.{◌≡◌, ◌≤◌, IfOk, IfErr, Ok, length};
-ghost use Rattle.env_script.specs.script_text.Reasons.{read_lines};
-ghost use Rattle.env_script.specs.script_text.Reads.{ReadsScript};
+ghost use Rattle.env_script.specs.Reasons.{read_lines};
+ghost use Rattle.env_script.specs.Reads.{ReadsScript};
 ghost use Rattle.report_text.specs.vidi_io.Cause.{Rose};
 ghost use Rattle.report_text.specs.vidi_io.Shelf.{Later};
 ghost use Rattle.vidi_bench.specs.AnswerText.{text_of};
@@ -18,7 +18,7 @@ use crate::device::{Device, device_of};
 use crate::read::{TEXT_LIMIT, read_file};
 use crate::status::{Reason, Word};
 use env_script::chan_map::Map;
-use env_script::script_text::Script;
+use env_script::Script;
 use env_script::{ScriptError, read_script};
 use report_text::vidi_io::Shelf;
 use std::alloc::Global;

@@ -14,7 +14,6 @@ pub use Rattle.sample_command.specs.run_commands as run_commands
 pub use Rattle.wrap_command.specs.run_model as run_model
 pub use Rattle.sample_command.specs as sample_command
 pub use Rattle.sample_command.specs.sample_gen as sample_gen
-pub use Rattle.sample_command.specs.script_text as script_text
 pub use Rattle.wrap_command.specs.shim_trees as shim_trees
 pub use Rattle.sample_command.specs.trace_code as trace_code
 pub use Rattle.sample_command.specs.trace_commands as trace_commands

@@ -4,7 +4,7 @@
 mod command;
 mod top;
 
-pub use sample_command::{replay_run, script_text, trace_code};
+pub use sample_command::{env_script, replay_run, trace_code};
 pub use top::vidi;
 pub use wrap_command::vidi_bench::{Reason, Status, Word};
 pub use wrap_command::{

@@ -7,8 +7,8 @@ use Rattle.vidi_commands.specs.trace_model.Recording.{trace_of}
 use Rattle.vidi_commands.specs.trace_model.declared.trace.Trace.{Trace}
 use Rattle.vidi_commands.specs.trace_code.Encoding.{encode, HasEncoding}
 use Rattle.vidi_commands.specs.trace_model.declared.packet.TheConstants.{MOST_CYCLES}
-use Rattle.vidi_commands.specs.script_text.ScriptOffer.{script_offer}
-use Rattle.vidi_commands.specs.script_text.declared.stalls.Stalls.{Stalls}
+use Rattle.vidi_commands.specs.env_script.ScriptOffer.{script_offer}
+use Rattle.vidi_commands.specs.env_script.declared.stalls.Stalls.{Stalls}
 use Rattle.vidi_commands.proofs.env_script_lemmas.Lasting.{script-lasts}
 use Rattle.vidi_commands.proofs.bench_run_lemmas.PlainLaws.{plain-keeps, plain-of}
 use Rattle.vidi_commands.proofs.vidi_recorder_lemmas.Kept.{drained-plain, no-hidden_gate}

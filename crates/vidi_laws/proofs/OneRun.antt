@@ -3,7 +3,7 @@ use Rattle.std.proofs.Common.{ℕ, List}
 use Rattle.vidi_commands.specs.run_model.Laws.{IsReady}
 use Rattle.vidi_commands.proofs.run_model_lemmas.MapLaws.{bound-is_map_of}
 use Rattle.vidi_commands.proofs.net_order_lemmas.OneMap.{has_one_map}
-use Rattle.vidi_commands.specs.script_text.ScriptOffer.{script_offer}
+use Rattle.vidi_commands.specs.env_script.ScriptOffer.{script_offer}
 use Rattle.vidi_commands.proofs.env_script_lemmas.Lasting.{script-lasts}
 use Rattle.vidi_commands.proofs.bench_run_lemmas.PlainLaws.{one-plain_run}
 use Rattle.vidi_commands.proofs.replay_run_lemmas.Outcomes.{one-outcome}

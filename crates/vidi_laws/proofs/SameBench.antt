@@ -2,12 +2,12 @@
 use Rattle.std.proofs.Common.{◌≡◌, ◌⊎◌, ℕ, List, None, Some, Ok, Err, inl, inr, sym, ap, subst, ◌∙◌}
 use Rattle.vidi_commands.proofs.vidi_bits_lemmas.Lists.{some_same}
 use Rattle.vidi_commands.specs.chan_map.declared.pins.Map.{Map}
-use Rattle.vidi_commands.specs.script_text.declared.error.ScriptError.{ScriptError}
-use Rattle.vidi_commands.specs.script_text.declared.error.ScriptError.TheVariants as errors
-use Rattle.vidi_commands.specs.script_text.declared.script.Script.{Script}
-use Rattle.vidi_commands.specs.script_text.Reasons.{read_lines}
-use Rattle.vidi_commands.specs.script_text.Reads.{ReadsScript}
-use Rattle.vidi_commands.specs.script_text.OneReading.{OnePlan, OneScript}
+use Rattle.vidi_commands.specs.env_script.declared.error.ScriptError.{ScriptError}
+use Rattle.vidi_commands.specs.env_script.declared.error.ScriptError.TheVariants as errors
+use Rattle.vidi_commands.specs.env_script.declared.script.Script.{Script}
+use Rattle.vidi_commands.specs.env_script.Reasons.{read_lines}
+use Rattle.vidi_commands.specs.env_script.Reads.{ReadsScript}
+use Rattle.vidi_commands.specs.env_script.OneReading.{OnePlan, OneScript}
 use Rattle.vidi_commands.specs.run_model.AlikeLaws.{OneEnd, RunsAlike}
 use Rattle.vidi_commands.specs.vidi_io.Shelf.{Files}
 use Rattle.vidi_commands.specs.report_text.declared.reason.Word.TheVariants as words

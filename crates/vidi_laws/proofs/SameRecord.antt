@@ -10,15 +10,15 @@ use Rattle.vidi_commands.specs.room_ledger.Reservation.{need}
 use Rattle.vidi_commands.proofs.room_ledger_lemmas.GateLaws.{one-set}
 use Rattle.vidi_commands.proofs.run_model_lemmas.Ends.{one-end_of}
 use Rattle.vidi_commands.proofs.run_model_lemmas.Played.{the-runs_alike}
-use Rattle.vidi_commands.specs.script_text.declared.error.StallError.TheVariants as stall_errors
-use Rattle.vidi_commands.specs.script_text.declared.script.Script.{Script}
-use Rattle.vidi_commands.specs.script_text.declared.stalls.Stalls.{Stalls}
-use Rattle.vidi_commands.specs.script_text.Plan.{allowance_at}
-use Rattle.vidi_commands.specs.script_text.Reasons.{read_lines}
-use Rattle.vidi_commands.specs.script_text.Stalls.{ReadsStalls}
-use Rattle.vidi_commands.specs.script_text.ScriptOffer.{script_offer}
+use Rattle.vidi_commands.specs.env_script.declared.error.StallError.TheVariants as stall_errors
+use Rattle.vidi_commands.specs.env_script.declared.script.Script.{Script}
+use Rattle.vidi_commands.specs.env_script.declared.stalls.Stalls.{Stalls}
+use Rattle.vidi_commands.specs.env_script.Plan.{allowance_at}
+use Rattle.vidi_commands.specs.env_script.Reasons.{read_lines}
+use Rattle.vidi_commands.specs.env_script.Stalls.{ReadsStalls}
+use Rattle.vidi_commands.specs.env_script.ScriptOffer.{script_offer}
 use Rattle.vidi_commands.specs.env_script.Offered.{offers_after}
-use Rattle.vidi_commands.specs.script_text.OneReading.{SamePlan}
+use Rattle.vidi_commands.specs.env_script.OneReading.{SamePlan}
 use Rattle.vidi_commands.specs.vidi_io.Shelf.{Files, holding}
 use Rattle.vidi_commands.specs.vidi_recorder.Course.{Course, GatesUnder, course, plan_of, sizes_of, IsTheRunOf}
 use Rattle.vidi_commands.specs.report_text.declared.reason.Word.TheVariants as words

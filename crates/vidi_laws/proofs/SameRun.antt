@@ -4,8 +4,8 @@ use Rattle.std.specs.Prelude.{IfSome}
 use Rattle.vidi_commands.specs.trace_model.declared.row.Row.{Row}
 use Rattle.vidi_commands.specs.chan_map.declared.pins.Map.{Map}
 use Rattle.vidi_commands.specs.run_model.Played.{all_up}
-use Rattle.vidi_commands.specs.script_text.declared.script.Script.{Script}
-use Rattle.vidi_commands.specs.script_text.ScriptOffer.{script_offer}
+use Rattle.vidi_commands.specs.env_script.declared.script.Script.{Script}
+use Rattle.vidi_commands.specs.env_script.ScriptOffer.{script_offer}
 use Rattle.vidi_commands.specs.bench_run.declared.plain.Spot.{Spot}
 use Rattle.vidi_commands.specs.env_script.Offered.{offers_after}
 use Rattle.vidi_commands.specs.bench_run.Plain.{channel_of}

@@ -10,7 +10,7 @@ use Rattle.vidi_commands.specs.replay_run.declared.outcome.ReplayOutcome.{Replay
 use Rattle.vidi_commands.specs.replay_run.declared.outcome.ReplayOutcome.TheVariants as outcomes
 use Rattle.vidi_commands.specs.sample_gen.declared.files.Sample.{Sample}
 use Rattle.vidi_commands.specs.sample_gen.Sample.{sample}
-use Rattle.vidi_commands.specs.script_text.declared.stalls.Stalls.{Stalls}
+use Rattle.vidi_commands.specs.env_script.declared.stalls.Stalls.{Stalls}
 use Rattle.vidi_commands.specs.vidi_recorder.Course.{Course, IsTheRunOf}
 use Rattle.vidi_commands.specs.vidi_bench.declared.bench.Bench.{Bench}
 use Rattle.vidi_commands.specs.vidi_bench.declared.device.Device.{Device}

@@ -27,8 +27,8 @@ use Rattle.vidi_commands.specs.replay_run.Replaying.{GoesInNoCircle}
 use Rattle.vidi_commands.specs.chan_map.declared.pins.Map.{Map}
 use Rattle.vidi_commands.specs.shim_trees.Wrapped.{wrapped}
 use Rattle.vidi_commands.specs.trace_model.declared.packet.TheConstants.{MOST_CYCLES}
-use Rattle.vidi_commands.specs.script_text.ScriptOffer.{script_offer}
-use Rattle.vidi_commands.specs.script_text.declared.stalls.Stalls.{Stalls}
+use Rattle.vidi_commands.specs.env_script.ScriptOffer.{script_offer}
+use Rattle.vidi_commands.specs.env_script.declared.stalls.Stalls.{Stalls}
 use Rattle.vidi_commands.specs.room_ledger.Gates.{used_at}
 use Rattle.vidi_commands.specs.room_ledger.Laws.{EverythingDrains}
 use Rattle.vidi_commands.specs.bench_run.declared.plain.PlainRun.{PlainRun}

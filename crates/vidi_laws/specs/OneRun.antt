@@ -5,8 +5,8 @@ use Rattle.vidi_commands.specs.trace_model.declared.row.Row.{Row}
 use Rattle.vidi_commands.specs.trace_model.declared.trace.Trace.{Trace}
 use Rattle.vidi_commands.specs.run_model.Laws.{OneOfLength, OneThatEnds}
 use Rattle.vidi_commands.specs.replay_run.declared.outcome.ReplayOutcome.{ReplayOutcome}
-use Rattle.vidi_commands.specs.script_text.ScriptOffer.{script_offer}
-use Rattle.vidi_commands.specs.script_text.declared.stalls.Stalls.{Stalls}
+use Rattle.vidi_commands.specs.env_script.ScriptOffer.{script_offer}
+use Rattle.vidi_commands.specs.env_script.declared.stalls.Stalls.{Stalls}
 use Rattle.vidi_commands.specs.bench_run.Laws.{OneAnswerOf}
 use Rattle.vidi_commands.specs.bench_run.Plain.{IsRunAllUp}
 use Rattle.vidi_commands.specs.vidi_recorder.Course.{IsRunOf, IsTheRunOf}

@@ -12,7 +12,7 @@ use Rattle.net_design.specs.declared.design.Design.{Design}
 use Rattle.net_design.specs.declared.values.Values.{Values}
 use Rattle.env_script.specs.chan_map.declared.pins.Map.{Map}
 use Rattle.env_script.specs.run_model.Offers as Rows
-use Rattle.env_script.specs.script_text.Offer.{Offer, Carries, EndsAreCompletions}
+use Rattle.env_script.specs.Offer.{Offer, Carries, EndsAreCompletions}
 use Rattle.chan_monitor.specs.Shell.{IsRunning, IsShown}
 use Rattle.env_script.specs.Offered.{offers_on, AllFit}
 use Rattle.env_script.proofs.OfferLaws.{are-offers, are-zero, carries-each}

@@ -4,9 +4,9 @@ use Rattle.std.proofs.Common.{refl, arith}
 use Rattle.std.specs.Prelude.{replicate}
 use Rattle.room_ledger.specs.Gates.{left, row_len, used_at}
 use Rattle.trace_code.specs.trace_model.declared.packet.TheConstants.{MOST_CYCLES}
-use Rattle.env_script.specs.script_text.declared.stalls.Drain.{Drain}
-use Rattle.env_script.specs.script_text.Plan.{allowances, allowance_at}
-use Rattle.env_script.specs.script_text.ScriptOffer.{script_offer}
+use Rattle.env_script.specs.declared.stalls.Drain.{Drain}
+use Rattle.env_script.specs.Plan.{allowances, allowance_at}
+use Rattle.env_script.specs.ScriptOffer.{script_offer}
 use Rattle.env_script.proofs.Lasting.{script-lasts}
 use Rattle.vidi_recorder.specs.Course.{plan_of, sizes_of}
 use Rattle.vidi_recorder.proofs.Kept.{run-is_kept}

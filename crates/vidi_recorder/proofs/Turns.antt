@@ -22,8 +22,8 @@ use Rattle.room_ledger.specs.Gates.{Plan, drained, left}
 use Rattle.room_ledger.specs.Laws.{MayFollow, StandsAfter}
 use Rattle.room_ledger.specs.Ledger.{Ledger, MayEmit, Regranted}
 use Rattle.room_ledger.proofs.Following.{keeps-gates}
-use Rattle.env_script.specs.script_text.declared.stalls.Stalls.{Stalls}
-use Rattle.env_script.specs.script_text.Offer.{Offer, Carries, FitsOffer}
+use Rattle.env_script.specs.declared.stalls.Stalls.{Stalls}
+use Rattle.env_script.specs.Offer.{Offer, Carries, FitsOffer}
 use Rattle.chan_monitor.specs.Shell.{IsShown}
 use Rattle.env_script.specs.Offered.{offers_after, offers_on, AllFit, AreLasting}
 use Rattle.env_script.proofs.Lasting.{offers-stay}

@@ -8,9 +8,9 @@ use Rattle.net_design.specs.declared.design.Design.{Design}
 use Rattle.env_script.specs.chan_map.declared.pins.Map.{Map}
 use Rattle.env_script.specs.run_model.Run.{IsRun, IsRunRow, IsTheRun}
 use Rattle.room_ledger.specs.Gates.{Plan, drained, row_len, used_at, AreGates}
-use Rattle.env_script.specs.script_text.declared.stalls.Stalls.{Stalls}
-use Rattle.env_script.specs.script_text.Plan.{allowance_at}
-use Rattle.env_script.specs.script_text.Offer.{Offer}
+use Rattle.env_script.specs.declared.stalls.Stalls.{Stalls}
+use Rattle.env_script.specs.Plan.{allowance_at}
+use Rattle.env_script.specs.Offer.{Offer}
 use Rattle.env_script.specs.Offered.{offers_after}
 
 -- a design with its map, what is offered after a list of rows, the plan of stalls, and the number of cycles

@@ -16,8 +16,8 @@ use Rattle.env_script.specs.run_model.Run.{AllUp, IsTheRun}
 use Rattle.room_ledger.specs.Gates.{used_at}
 use Rattle.room_ledger.specs.Laws.{EverythingDrains}
 use Rattle.room_ledger.specs.Reservation.{least}
-use Rattle.env_script.specs.script_text.declared.stalls.Stalls.{Stalls}
-use Rattle.env_script.specs.script_text.Offer.{Offer}
+use Rattle.env_script.specs.declared.stalls.Stalls.{Stalls}
+use Rattle.env_script.specs.Offer.{Offer}
 use Rattle.env_script.specs.Offered.{AreLasting}
 use Rattle.vidi_recorder.specs.Course.{Course, course, sizes_of, IsRunOf, IsTheRunOf}
 

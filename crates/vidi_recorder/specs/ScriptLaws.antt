@@ -8,11 +8,11 @@ use Rattle.env_script.specs.chan_map.declared.pins.Map.{Map}
 use Rattle.env_script.specs.run_model.Laws.{IsReady, OneOfLength, OneThatEnds}
 use Rattle.room_ledger.specs.Laws.{EverythingDrains}
 use Rattle.room_ledger.specs.Reservation.{need}
-use Rattle.env_script.specs.script_text.declared.script.Script.{Script}
-use Rattle.env_script.specs.script_text.declared.stalls.Drain.{Drain}
-use Rattle.env_script.specs.script_text.declared.stalls.Stalls.{Stalls}
-use Rattle.env_script.specs.script_text.Fits.{FitsChannels}
-use Rattle.env_script.specs.script_text.ScriptOffer.{script_offer}
+use Rattle.env_script.specs.declared.script.Script.{Script}
+use Rattle.env_script.specs.declared.stalls.Drain.{Drain}
+use Rattle.env_script.specs.declared.stalls.Stalls.{Stalls}
+use Rattle.env_script.specs.Fits.{FitsChannels}
+use Rattle.env_script.specs.ScriptOffer.{script_offer}
 use Rattle.vidi_recorder.specs.Course.{Course, course, plan_of, sizes_of, IsRunOf, IsTheRunOf}
 use Rattle.vidi_recorder.specs.Laws.{IsKept}
 

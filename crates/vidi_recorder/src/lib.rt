@@ -14,7 +14,6 @@ mod steps;
 mod turn;
 
 pub use env_script;
-pub use env_script::script_text;
 pub use error::{Outcome, RecordError};
 pub use laws::{drained_run_is_plain, no_hidden_gate, one_recorded_run, the_run_is_kept};
 pub use record::record_run;

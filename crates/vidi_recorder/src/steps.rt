@@ -13,7 +13,7 @@ ghost use Rattle.net_design.specs.declared.design.Design.{Design};
 ghost use Rattle.net_design.specs.declared.values.Values.{Values};
 ghost use Rattle.room_ledger.specs.Gates.{drained, left};
 ghost use Rattle.room_ledger.specs.Ledger.{Emitted, MayEmit, Regranted};
-ghost use Rattle.env_script.specs.script_text.Offer.{Carries, EndsAreCompletions};
+ghost use Rattle.env_script.specs.Offer.{Carries, EndsAreCompletions};
 ghost use Rattle.chan_monitor.specs.Shell.{HasPlaces, IsShown};
 ghost use Rattle.env_script.specs.Offered.{offers_on, AllFit};
 ghost use Rattle.vidi_io.specs.Cause.{HasCause};

@@ -1,4 +1,4 @@
-use Rattle.script_text.proofs.Moves.{no_step}
+use Rattle.env_script.proofs.Moves.{no_step}
 use Rattle.env_script.proofs.script_env.step_of.Goals as goal
 
 pub returns-in-None : goal.returns-in-None

@@ -1,6 +1,6 @@
 use Rattle.std.proofs.Math.Logic.{∥∥₁_elim}
 use Rattle.std.proofs.Props.{props}
-use Rattle.chan_monitor.specs.Shell.{IsRunning}
+use Rattle.bench_run.specs.chan_monitor.Shell.{IsRunning}
 use Rattle.run_checks.proofs.play.cycle.Goals as goal
 
 pub returns-clause-gates : goal.returns-clause-gates

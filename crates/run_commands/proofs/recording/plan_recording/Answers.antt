@@ -2,8 +2,8 @@ use Rattle.std.proofs.Common.{ℕ, List, Ok, inl, inr}
 use Rattle.std.specs.Prelude.{IfOk, IfErr}
 use Rattle.vidi_recorder.specs.vidi_io.Cause.{Rose}
 use Rattle.vidi_bench.specs.report_text.declared.reason.Word.TheVariants as words
-use Rattle.bench_run.specs.script_text.Reasons.{read_lines}
-use Rattle.bench_run.specs.script_text.Stalls.{ReadsStalls}
+use Rattle.bench_run.specs.env_script.Reasons.{read_lines}
+use Rattle.bench_run.specs.env_script.Stalls.{ReadsStalls}
 use Rattle.vidi_bench.specs.Benches.{ReadTexts}
 use Rattle.vidi_bench.specs.Design.{text_limit}
 use Rattle.vidi_bench.specs.Ended.{EndsWith}

@@ -1,6 +1,6 @@
 use Rattle.std.proofs.Common.{◌≡◌, ℕ, None}
-use Rattle.bench_run.specs.script_text.declared.script.Script.{Script}
-use Rattle.bench_run.specs.script_text.ScriptOffer.{script_offer}
+use Rattle.bench_run.specs.env_script.declared.script.Script.{Script}
+use Rattle.bench_run.specs.env_script.ScriptOffer.{script_offer}
 use Rattle.vidi_recorder.specs.Course.{course}
 use Rattle.run_commands.specs.Recorded.{FileEnds, FileFails}
 use Rattle.run_commands.proofs.Filed.{if-ends, if-fails}

@@ -1,6 +1,6 @@
 use Rattle.std.proofs.Common.{refl}
-use Rattle.script_text.specs.vidi_lines.Lines.{file_lines, is_bad, words_between}
-use Rattle.script_text.specs.chan_map.Forms.{keyword_of, form_of}
+use Rattle.env_script.specs.vidi_lines.Lines.{file_lines, is_bad, words_between}
+use Rattle.env_script.specs.chan_map.Forms.{keyword_of, form_of}
 use Rattle.sample_gen.proofs.laws.map_is_read.Goals as goal
 
 pub returns : goal.returns

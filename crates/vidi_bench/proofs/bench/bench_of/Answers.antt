@@ -1,6 +1,6 @@
 use Rattle.std.proofs.Common.{Ok}
-use Rattle.env_script.specs.script_text.Reads.{ReadsScript}
-use Rattle.env_script.specs.script_text.Reasons.{read_lines}
+use Rattle.env_script.specs.Reads.{ReadsScript}
+use Rattle.env_script.specs.Reasons.{read_lines}
 use Rattle.vidi_bench.specs.Benches.{IsNoScript, RefusedTexts}
 use Rattle.vidi_bench.specs.Devices.{IsDevice, Wiring}
 use Rattle.vidi_bench.specs.Ended.{EndsWith}

@@ -12,10 +12,10 @@ use Rattle.trace_code.specs.trace_model.Stability.{IsLowestUnstable}
 use Rattle.net_design.specs.declared.design.Design.{Design}
 use Rattle.net_design.specs.declared.values.Values.{Values}
 use Rattle.env_script.specs.chan_map.declared.pins.Map.{Map}
-use Rattle.env_script.specs.script_text.Offer.{Carries}
+use Rattle.env_script.specs.Offer.{Carries}
 use Rattle.chan_monitor.specs.Shell.{IsShown}
 use Rattle.env_script.specs.Offered.{offers_on}
-use Rattle.env_script.specs.script_text.Plan.{allowance_at}
+use Rattle.env_script.specs.Plan.{allowance_at}
 use Rattle.vidi_recorder.specs.Course.{course, plan_of, sizes_of}
 use Rattle.vidi_recorder.specs.Standing.{Cut, Reached}
 use Rattle.vidi_recorder.proofs.Going.{Cycle, mixed-long}

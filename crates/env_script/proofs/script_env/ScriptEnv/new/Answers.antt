@@ -1,6 +1,6 @@
 use Rattle.std.proofs.Common.{sym, ap, ◌∙◌, length}
 use Rattle.std.proofs.lemmas.List.{length-replicate}
-use Rattle.script_text.proofs.Moves.{reads_all, refilled, started}
+use Rattle.env_script.proofs.Moves.{reads_all, refilled, started}
 use Rattle.env_script.proofs.script_env.ScriptEnv.new.Goals as goal
 
 pub move_on-requires-clause-reads : goal.move_on-requires-clause-reads

@@ -1,5 +1,5 @@
 use Rattle.std.proofs.Common.{◌≡◌, ◌++◌, ap, ◌∙◌, arith, length, take, drop}
-use Rattle.script_text.proofs.Moves.{reads_all, refilled, committed}
+use Rattle.env_script.proofs.Moves.{reads_all, refilled, committed}
 use Rattle.env_script.proofs.script_env.ScriptEnvEnv.commit.Goals as goal
 
 pub move_on-requires-clause-reads : goal.move_on-requires-clause-reads

@@ -1,0 +1,30 @@
+-- The steps that lines say (this project's profile).
+use Rattle.std.specs.Prelude.{ℕ, ◌==◌, Bool, false, if◌then◌else◌, List, [], Option, Some, None}
+use Rattle.std.specs.List.{flat_map}
+use Rattle.std.specs.Option.{option_to_list}
+use Rattle.env_script.specs.declared.said.Said.{Said}
+use Rattle.env_script.specs.declared.said.Said.TheVariants.{Send, Take, TakeAll, Wait, After}
+use Rattle.env_script.specs.declared.said.StepLine.{StepLine}
+use Rattle.env_script.specs.declared.script.Step.{Step}
+use Rattle.env_script.specs.declared.script.Step.TheVariants as S
+
+-- the step that is said; `after` needs a channel
+abbrev pub made : Said → Option Step
+made (Send content) = Some (S.Send content)
+made (Take count) = Some (S.Take count)
+made TakeAll = Some S.TakeAll
+made (Wait cycles) = Some (S.Wait cycles)
+made (After None count) = None
+made (After (Some other) count) = Some (S.After other count)
+
+abbrev pub is_of : ℕ → Option ℕ → Bool
+is_of c None = false
+is_of c (Some d) = c == d
+
+-- the step of channel c that a line says, where it names that channel
+abbrev pub step_for : ℕ → StepLine → List Step
+step_for c l = if is_of c l.channel then option_to_list (made l.said) else []
+
+-- the steps of channel c that lines say, in their order
+abbrev pub steps_for : ℕ → List StepLine → List Step
+steps_for c lines = flat_map (step_for c) lines

@@ -1,6 +1,0 @@
-use Rattle.std.proofs.Common.{sym}
-use Rattle.script_text.proofs.Fitting.{ports_differ}
-use Rattle.script_text.proofs.lawful.fits_ports.Goals as goal
-
-pub returns-then-widths-content : goal.returns-then-widths-content
-returns-then-widths-content c = sym (ports_differ c.args.widths.now c.args.content.now c.if-widths-content.true)
