@@ -77,8 +77,9 @@ IsLeft files now name bytes first starts = (now ≡ holding files name bytes) ×
 some-held : (files now : Option Files) (name bytes : List ℕ) (first starts : ℕ) → 0 < length bytes
     → IsHeld files now name bytes first starts ⊎ IsUnstarted files now name bytes first starts
     → IsLeft files now name bytes first starts
-some-held files now name bytes first starts some (inl is) = (is.held, true, is.once, λ e. absurd (true≢false e))
-some-held None now name bytes first starts some (inr is) = (⊎_elim (λ same. same) (λ same. same) is.kept, false, is.none, λ _. refl)
+some-held files now name bytes first starts some (inl is) = (is.held, (true, is.once, λ e. absurd (true≢false e)))
+some-held None now name bytes first starts some (inr is) =
+    (⊎_elim (λ same. same) (λ same. same) is.kept, (false, is.none, λ _. refl))
 some-held (Some m) now name bytes first starts some (inr is) =
     let nothing : length bytes ≡ 0 = ap (λ (bs : List ℕ). length bs) is.empty in absurd (omega (arith, some, nothing))
 
@@ -100,17 +101,13 @@ pub file-ends : (w : Course) (runs : Design → Values → Option Row → Type 0
     → IsOver started now name reads starts (frame name files before first)
     → EndsWith w runs stands (bytes_written false files name) (bytes_written started now name) o
     → FileEnds w files name (HasStarted first starts) now o
-file-ends w runs stands started files now name reads before starts first (outcomes.Whole packets) over (rows, run, kept) = (
-  rows,
-  (run, whole-left started files now name (trace_of w.bound.channels rows) reads before starts first over kept.told),
-  kept.count,
-)
+file-ends w runs stands started files now name reads before starts first (outcomes.Whole packets) over (rows, run, kept) =
+    let left = whole-left started files now name (trace_of w.bound.channels rows) reads before starts first over kept.told in
+    (rows, (run, left.0, left.1), kept.count)
 file-ends w runs stands started files now name reads before starts first (outcomes.Unstable channel cycle packets) over
-    (rows, run, is, kept) = (
-      rows,
-      (run, whole-left started files now name (trace_of w.bound.channels rows) reads before starts first over kept.told),
-      is,
-    )
+    (rows, run, is, kept) =
+    let left = whole-left started files now name (trace_of w.bound.channels rows) reads before starts first over kept.told in
+    (rows, (run, left.0, left.1), is)
 
 pub file-fails : (w : Course) (runs : Design → Values → Option Row → Type 0) (stands : List Row → Type 0) (started : Bool)
     (files now : Option Files) (name : List ℕ) (reads before : List ℕ → ℕ) (starts first : ℕ) (e : RecordError)

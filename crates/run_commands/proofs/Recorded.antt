@@ -42,7 +42,7 @@ told-recorded w files left trace P (outcomes.Unstable channel cycle packets) cyc
 module _ (w : Course) (files left : Option Files) (trace : List ℕ) (P Q : Bool → Type 0) (known : (once : Bool) → P once → Q once) where
   short-knowing : IsCutShort w files trace P left → IsCutShort w files trace Q left
   short-knowing (inl (none, kept)) = inl (known false none, kept)
-  short-knowing (inr (once, held)) = inr (known true once, held)
+  short-knowing (inr (once, rows, bytes, run, front, held)) = inr (known true once, rows, bytes, run, front, held)
 
   run-knowing : (status : Status) (text : List ℕ) → RecordsRun w trace files P status text left
       → RecordsRun w trace files Q status text left

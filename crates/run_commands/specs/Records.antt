@@ -104,8 +104,8 @@ Records design map script stalls trace files ReadFailed Started status text left
 -- trace; the run is there, and these rows are its first.
 abbrev pub IsCutShort : Course → Option Files → List ℕ → (Bool → Type 0) → Option Files → Type 0
 IsCutShort w files trace Started left = (Started false × ((left ≡ files) ⊎ (left ≡ emptied files trace)))
-    ⊎ (Started true × ((rows : List Row) × (bytes : List ℕ) × IsRunOf w rows × IsFrontOfTheRun w rows bytes
-    × (left ≡ holding files trace bytes)))
+    ⊎ (Started true × (rows : List Row) × (bytes : List ℕ) × IsRunOf w rows × IsFrontOfTheRun w rows bytes
+    × (left ≡ holding files trace bytes))
 
 abbrev pub StopsRecording : List ℕ → List ℕ → List ℕ → List ℕ → List ℕ → Option Files → (Bool → Type 0) → Option Files → Type 0
 StopsRecording design map script stalls trace files Started left = (b : Bench) × (plan : Stalls)

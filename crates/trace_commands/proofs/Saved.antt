@@ -33,8 +33,10 @@ saved-owed trace out files now left F file whole V W P Q (Ok a) read (t, front) 
   t,
   (file, read, front.salvaged),
   (said.0, said.1 ∙ ap (λ (n : ℕ). salvaged_line n) front.packets),
-  holds ∙ ap (λ (fs : Option Files). holding fs out (ended_front file whole)) same ∙ ap (λ (b : List ℕ). holding files out b) front.encoded,
-  kept true once,
+  (
+    holds ∙ ap (λ (fs : Option Files). holding fs out (ended_front file whole)) same ∙ ap (λ (b : List ℕ). holding files out b) front.encoded,
+    kept true once,
+  ),
 )
 saved-owed trace out files now left F file whole V W P Q (Err (ends.Refused a)) read front same why kept said holds once stopped =
     absurd stopped

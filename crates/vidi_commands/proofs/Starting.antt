@@ -23,20 +23,20 @@ Once P = (once : Bool) × P once
 -- ---- one file at most
 does-once : (c : Command) (files : Option Files) (F : List ℕ → Type 0) (P : Bool → Type 0) (status : Status) (text : List ℕ)
     (left : Option Files) → Does c files F P status text left → Once P
-does-once (Dump trace) files F P status text left (d, same, none) = (false, none)
-does-once (Check design top) files F P status text left (d, same, none) = (false, none)
-does-once (Run design map script) files F P status text left (d, same, none) = (false, none)
-does-once (Record design map script stalls trace) files F P status text left (inl (u, same, none)) = (false, none)
+does-once (Dump trace) files F P status text left (d, (same, none)) = (false, none)
+does-once (Check design top) files F P status text left (d, (same, none)) = (false, none)
+does-once (Run design map script) files F P status text left (d, (same, none)) = (false, none)
+does-once (Record design map script stalls trace) files F P status text left (inl (u, (same, none))) = (false, none)
 does-once (Record design map script stalls trace) files F P status text left
     (inr (b, plan, planned, (rows, stop, (run, held, (once, is, told)), said))) = (once, is)
-does-once (Replay design map trace n out) files F P status text left (inl (u, same, none)) = (false, none)
+does-once (Replay design map trace n out) files F P status text left (inl (u, (same, none))) = (false, none)
 does-once (Replay design map trace n out) files F P status text left (inr (v, t, is, (rows, outcome, run, said, (held, once)))) = (true, once)
-does-once (Compare trace other) files F P status text left (d, same, none) = (false, none)
-does-once (Salvage trace out) files F P status text left (inl (u, same, none)) = (false, none)
+does-once (Compare trace other) files F P status text left (d, (same, none)) = (false, none)
+does-once (Salvage trace out) files F P status text left (inl (u, (same, none))) = (false, none)
 does-once (Salvage trace out) files F P status text left (inr (t, whole, said, (held, once))) = (true, once)
-does-once (Wrap design map out) files F P status text left (inl (u, same, none)) = (false, none)
+does-once (Wrap design map out) files F P status text left (inl (u, (same, none))) = (false, none)
 does-once (Wrap design map out) files F P status text left (inr (f, m, is, (said, (held, once)))) = (true, once)
-does-once (Sample number) files F P status text left (d, same, none) = (false, none)
+does-once (Sample number) files F P status text left (d, (same, none)) = (false, none)
 
 pub earns-once : (words : List (List ℕ)) (files : Option Files) (F : List ℕ → Type 0) (P : Bool → Type 0) (status : Status)
     (text : List ℕ) (left : Option Files) → Earns words files F P status text left → Once P
@@ -46,14 +46,14 @@ earns-once words files F P status text left (inr (inr (c, given, d))) = does-onc
 
 cut-once : (files : Option Files) (name bytes : List ℕ) (P : Bool → Type 0) (left : Option Files) → IsCutOff files name bytes P left → Once P
 cut-once files name bytes P left (inl (none, kept)) = (false, none)
-cut-once files name bytes P left (inr (once, held)) = (true, once)
+cut-once files name bytes P left (inr (once, k, held)) = (true, once)
 
 stops-once : (c : Command) (files : Option Files) (P : Bool → Type 0) (left : Option Files) → StopsIn c files P left → Once P
 stops-once (Dump trace) files P left is = absurd is
 stops-once (Check design top) files P left is = absurd is
 stops-once (Run design map script) files P left is = absurd is
 stops-once (Record design map script stalls trace) files P left (b, plan, planned, inl (none, kept)) = (false, none)
-stops-once (Record design map script stalls trace) files P left (b, plan, planned, inr (once, held)) = (true, once)
+stops-once (Record design map script stalls trace) files P left (b, plan, planned, inr (once, rows, bytes, run, front, held)) = (true, once)
 stops-once (Replay design map trace n out) files P left (v, t, is, (rows, outcome, run, cut)) = cut-once files out _ P left cut
 stops-once (Compare trace other) files P left is = absurd is
 stops-once (Salvage trace out) files P left (t, whole, cut) = cut-once files out _ P left cut
@@ -100,21 +100,21 @@ replayed-starts t u n (outcomes.Unstable channel cycle) status text said is = su
 
 does-none : (c : Command) (files : Option Files) (F : List ℕ → Type 0) (P : Bool → Type 0) (status : Status) (text : List ℕ)
     (left : Option Files) → Does c files F P status text left → StartsNone status → P false
-does-none (Dump trace) files F P status text left (d, same, none) is = none
-does-none (Check design top) files F P status text left (d, same, none) is = none
-does-none (Run design map script) files F P status text left (d, same, none) is = none
-does-none (Record design map script stalls trace) files F P status text left (inl (u, same, none)) is = none
+does-none (Dump trace) files F P status text left (d, (same, none)) is = none
+does-none (Check design top) files F P status text left (d, (same, none)) is = none
+does-none (Run design map script) files F P status text left (d, (same, none)) is = none
+does-none (Record design map script stalls trace) files F P status text left (inl (u, (same, none))) is = none
 does-none (Record design map script stalls trace) files F P status text left (inr (b, plan, planned, (rows, stop, leaves, said))) is =
     absurd (recorded-starts _ rows stop status text said is)
-does-none (Replay design map trace n out) files F P status text left (inl (u, same, none)) is = none
+does-none (Replay design map trace n out) files F P status text left (inl (u, (same, none))) is = none
 does-none (Replay design map trace n out) files F P status text left (inr (v, t, able, (rows, outcome, run, said, held))) is =
     absurd (replayed-starts t _ n outcome status text said is)
-does-none (Compare trace other) files F P status text left (d, same, none) is = none
-does-none (Salvage trace out) files F P status text left (inl (u, same, none)) is = none
+does-none (Compare trace other) files F P status text left (d, (same, none)) is = none
+does-none (Salvage trace out) files F P status text left (inl (u, (same, none))) is = none
 does-none (Salvage trace out) files F P status text left (inr (t, whole, said, held)) is = absurd (done-starts status said.0 is)
-does-none (Wrap design map out) files F P status text left (inl (u, same, none)) is = none
+does-none (Wrap design map out) files F P status text left (inl (u, (same, none))) is = none
 does-none (Wrap design map out) files F P status text left (inr (f, m, able, (said, held))) is = absurd (done-starts status said.0 is)
-does-none (Sample number) files F P status text left (d, same, none) is = none
+does-none (Sample number) files F P status text left (d, (same, none)) is = none
 
 earns-none : (words : List (List ℕ)) (files : Option Files) (F : List ℕ → Type 0) (P : Bool → Type 0) (status : Status)
     (text : List ℕ) (left : Option Files) → Earns words files F P status text left → StartsNone status → P false

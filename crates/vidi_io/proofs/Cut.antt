@@ -18,7 +18,7 @@ cut-at_piece old mid new name bytes Started started once (inr (k, grew)) = inr (
 pub cut-knowing : (old new : Option Files) (name bytes : List ℕ) (P Q : Bool → Type 0) → ((once : Bool) → P once → Q once)
     → IsCutOff old name bytes P new → IsCutOff old name bytes Q new
 cut-knowing old new name bytes P Q known (inl (is, kept)) = inl (known false is, kept)
-cut-knowing old new name bytes P Q known (inr (is, held)) = inr (known true is, held)
+cut-knowing old new name bytes P Q known (inr (is, k, held)) = inr (known true is, k, held)
 
 -- a start that was made since a later place, before which none was, was made since an earlier one
 pub started-since : (before middle now : ℕ) (once : Bool) → middle ≡ before → HasStarted middle now once → HasStarted before now once

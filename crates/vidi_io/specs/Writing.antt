@@ -13,4 +13,4 @@ IsWritten old name bytes Started new = (new ≡ holding old name bytes) × Start
 -- no start succeeded, and the file of this name is as before or empty; or it was started exactly once, and holds a front of the bytes
 abbrev pub IsCutOff : Option Files → List ℕ → List ℕ → (Bool → Type 0) → Option Files → Type 0
 IsCutOff old name bytes Started new = (Started false × ((new ≡ old) ⊎ (new ≡ emptied old name)))
-    ⊎ (Started true × ((k : ℕ) × (new ≡ holding old name (take k bytes))))
+    ⊎ (Started true × (k : ℕ) × (new ≡ holding old name (take k bytes)))

@@ -278,23 +278,23 @@ pub record Laws : Type 0 where
 
 one_deed : Laws → (c : Command) → (files : Files) (P Q : Bool → Type 0) (a b : Status) (x y : List ℕ) (left right : Option Files)
     → Does c (Some files) (λ _. ⊥) P a x left → Does c (Some files) (λ _. ⊥) Q b y right → AlikeLeft a b x y left right
-one_deed laws (Dump trace) files P Q a b x y left right (d, l, _) (e, r, _) =
+one_deed laws (Dump trace) files P Q a b x y left right (d, (l, _)) (e, (r, _)) =
     kept files a b x y left right (inr (one_dump laws.reading laws.place trace files a b x y d e)) l r
-one_deed laws (Run design map script) files P Q a b x y left right (d, l, _) (e, r, _) =
+one_deed laws (Run design map script) files P Q a b x y left right (d, (l, _)) (e, (r, _)) =
     kept files a b x y left right (one_run laws.benches design map script files a b x y d e) l r
 one_deed laws (Record design map script stalls trace) files P Q a b x y left right d e =
     one_record laws.benches design map script stalls trace files P Q a b x y left right d e
 one_deed laws (Replay design map trace n out) files P Q a b x y left right d e =
     one_replay laws.replays design map trace n out files P Q a b x y left right d e
-one_deed laws (Check design top) files P Q a b x y left right (d, l, _) (e, r, _) =
+one_deed laws (Check design top) files P Q a b x y left right (d, (l, _)) (e, (r, _)) =
     kept files a b x y left right (one_check laws.benches.devices.texts design top files a b x y d e) l r
-one_deed laws (Compare trace other) files P Q a b x y left right (d, l, _) (e, r, _) =
+one_deed laws (Compare trace other) files P Q a b x y left right (d, (l, _)) (e, (r, _)) =
     kept files a b x y left right (inr (one_compare laws.reading laws.place trace other files a b x y d e)) l r
 one_deed laws (Salvage trace out) files P Q a b x y left right d e =
     all-same a b x y left right (one_salvaged laws.salvage trace out files P Q a b x y left right d e)
 one_deed laws (Wrap design map out) files P Q a b x y left right d e =
     one_wrap laws.benches.devices design map out files P Q a b x y left right d e
-one_deed laws (Sample number) files P Q a b x y left right (d, l, _) (e, r, _) =
+one_deed laws (Sample number) files P Q a b x y left right (d, (l, _)) (e, (r, _)) =
     kept files a b x y left right (one_sample laws.benches laws.replays number a b x y d e) l r
 
 pub one_answer_lem : Laws → OneAnswer

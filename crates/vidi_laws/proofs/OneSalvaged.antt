@@ -60,7 +60,7 @@ unsaved-whole one trace files a x t (inr (g, read', (none, s))) (f, read, whole)
 pub one_salvaged : OneSalvage → (trace out : List ℕ) (files : Files) (P Q : Bool → Type 0) (a b : Status) (x y : List ℕ)
     (left right : Option Files) → Saves trace out (Some files) (λ _. ⊥) P a x left → Saves trace out (Some files) (λ _. ⊥) Q b y right
     → (a ≡ b) × (x ≡ y) × (left ≡ right)
-one_salvaged one trace out files P Q a b x y left right (inl (u, same, _)) (inl (v, same', _)) =
+one_salvaged one trace out files P Q a b x y left right (inl (u, (same, _))) (inl (v, (same', _))) =
     let e = one-unsaved trace files a b x y u v in (e.0, e.1, same ∙ sym same')
 one_salvaged one trace out files P Q a b x y left right (inl (u, same)) (inr (t, whole, s, same')) =
     absurd (unsaved-whole one trace files a x t u whole)

@@ -208,7 +208,7 @@ module _ (laws : BenchLaws) where
   pub one_record : (design m script stalls trace : List ℕ) (files : Files) (P Q : Bool → Type 0) (a b : Status) (x y : List ℕ)
       (left right : Option Files) → Records design m script stalls trace (Some files) (λ _. ⊥) P a x left
       → Records design m script stalls trace (Some files) (λ _. ⊥) Q b y right → LeftAlike a b x y left right
-  one_record design m script stalls trace files P Q a b x y left right (inl (u, l, _)) (inl (v, r, _)) =
+  one_record design m script stalls trace files P Q a b x y left right (inl (u, (l, _))) (inl (v, (r, _))) =
       (unrecorded design m script stalls files a b x y u v, l ∙ sym r)
   one_record design m script stalls trace files P Q a b x y left right (inl (u, l)) (inr (c, q, planned, records)) =
       absurd (unrecorded-apart design m script stalls files c q planned a x u)

@@ -186,7 +186,7 @@ module _ (laws : ReplayLaws) where
   pub one_replay : (design m trace : List ℕ) (n : ℕ) (out : List ℕ) (files : Files) (P Q : Bool → Type 0) (a b : Status) (x y : List ℕ)
       (left right : Option Files) → Replays design m trace n out (Some files) (λ _. ⊥) P a x left
       → Replays design m trace n out (Some files) (λ _. ⊥) Q b y right → LeftAlike a b x y left right
-  one_replay design m trace n out files P Q a b x y left right (inl (u, l, _)) (inl (v, r, _)) =
+  one_replay design m trace n out files P Q a b x y left right (inl (u, (l, _))) (inl (v, (r, _))) =
       (unreplayed design m trace files a b x y u v, l ∙ sym r)
   one_replay design m trace n out files P Q a b x y left right (inl (u, l)) (inr (w, t, replayable, replays)) =
       absurd (unreplayed-apart design m trace files w t replayable a x u)

@@ -167,7 +167,7 @@ module _ (laws : DeviceLaws) where
   pub one_wrap : (design m out : List ℕ) (files : Files) (P Q : Bool → Type 0) (a b : Status) (x y : List ℕ) (left right : Option Files)
       → Wraps design m out (Some files) (λ _. ⊥) P a x left → Wraps design m out (Some files) (λ _. ⊥) Q b y right
       → LeftAlike a b x y left right
-  one_wrap design m out files P Q a b x y left right (inl (u, l, _)) (inl (v, r, _)) = (unwritten design m files a b x y u v, l ∙ sym r)
+  one_wrap design m out files P Q a b x y left right (inl (u, (l, _))) (inl (v, (r, _))) = (unwritten design m files a b x y u v, l ∙ sym r)
   one_wrap design m out files P Q a b x y left right (inl (u, l)) (inr (g, k, is, wrote)) =
       absurd (unwritten-apart design m files g k is a x u)
   one_wrap design m out files P Q a b x y left right (inr (f, k, is, wrote)) (inl (u, r)) =

@@ -81,8 +81,10 @@ written-owed design map out files now left F p V W P Q (Ok a) same (f, m, is, te
   is,
   (
     (said.0, said.1 ∙ ap (λ (n : ℕ). wrapped_line n) channels),
-    holds ∙ ap (λ (fs : Option Files). holding fs out p.text) same ∙ ap (λ (b : List ℕ). holding files out b) text,
-    kept true once,
+    (
+      holds ∙ ap (λ (fs : Option Files). holding fs out p.text) same ∙ ap (λ (b : List ℕ). holding files out b) text,
+      kept true once,
+    ),
   ),
 )
 written-owed design map out files now left F p V W P Q (Err (ends.Refused a)) same is why kept said holds once stopped = absurd stopped
