@@ -1,8 +1,9 @@
 -- How many files a call has started, by its answer.
 use Rattle.std.proofs.Common.{◌≡◌, ℕ, Bool, true, false, List, Option, None, Some, inl, inr, subst}
-use Rattle.sample_command.specs.trace_model.declared.channel.Channel.{Channel}
-use Rattle.sample_command.specs.trace_model.declared.row.Row.{Row}
-use Rattle.sample_command.specs.trace_model.declared.trace.Trace.{Trace}
+use Rattle.wrap_command.specs.trace_model.declared.channel.Channel.{Channel}
+use Rattle.wrap_command.specs.trace_model.declared.row.Row.{Row}
+use Rattle.wrap_command.specs.trace_model.declared.trace.Trace.{Trace}
+use Rattle.wrap_command.specs.trace_model.Recording.{trace_of}
 use Rattle.wrap_command.specs.vidi_io.Shelf.{Files}
 use Rattle.wrap_command.specs.vidi_io.Writing.{IsCutOff}
 use Rattle.wrap_command.specs.vidi_bench.declared.status.Status.{Status}
@@ -40,7 +41,7 @@ does-once (Sample number) files F P status text left (d, (same, none)) = (false,
 
 pub earns-once : (words : List (List ℕ)) (files : Option Files) (F : List ℕ → Type 0) (P : Bool → Type 0) (status : Status)
     (text : List ℕ) (left : Option Files) → Earns words files F P status text left → Once P
-earns-once words files F P status text left (inl (no, said, (same, none))) = (false, none)
+earns-once words files F P status text left (inl (given, said, (same, none))) = (false, none)
 earns-once words files F P status text left (inr (inl (said, (same, none)))) = (false, none)
 earns-once words files F P status text left (inr (inr (c, given, d))) = does-once c files F P status text left d
 
@@ -108,7 +109,7 @@ does-none (Record design map script stalls trace) files F P status text left (in
     absurd (recorded-starts _ rows stop status text said is)
 does-none (Replay design map trace n out) files F P status text left (inl (u, (same, none))) is = none
 does-none (Replay design map trace n out) files F P status text left (inr (v, t, able, (rows, outcome, run, said, held))) is =
-    absurd (replayed-starts t _ n outcome status text said is)
+    absurd (replayed-starts t (trace_of v.map.channels rows) n outcome status text said is)
 does-none (Compare trace other) files F P status text left (d, (same, none)) is = none
 does-none (Salvage trace out) files F P status text left (inl (u, (same, none))) is = none
 does-none (Salvage trace out) files F P status text left (inr (t, whole, said, held)) is = absurd (done-starts status said.0 is)
@@ -118,7 +119,7 @@ does-none (Sample number) files F P status text left (d, (same, none)) is = none
 
 earns-none : (words : List (List ℕ)) (files : Option Files) (F : List ℕ → Type 0) (P : Bool → Type 0) (status : Status)
     (text : List ℕ) (left : Option Files) → Earns words files F P status text left → StartsNone status → P false
-earns-none words files F P status text left (inl (no, said, (same, none))) is = none
+earns-none words files F P status text left (inl (given, said, (same, none))) is = none
 earns-none words files F P status text left (inr (inl (said, (same, none)))) is = none
 earns-none words files F P status text left (inr (inr (c, given, d))) is = does-none c files F P status text left d is
 
