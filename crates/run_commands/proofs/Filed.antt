@@ -21,10 +21,10 @@ use Rattle.vidi_recorder.specs.declared.error.Outcome.{Outcome}
 use Rattle.vidi_recorder.specs.declared.error.Outcome.TheVariants as outcomes
 use Rattle.vidi_recorder.specs.declared.error.RecordError.{RecordError}
 use Rattle.vidi_recorder.specs.declared.error.RecordError.TheVariants as errors
-use Rattle.vidi_recorder.specs.Course.{Course}
-use Rattle.vidi_recorder.specs.Recording.{EndsWith, FailsWith}
+use Rattle.vidi_recorder.specs.Course.{Course, IsRunOf}
+use Rattle.vidi_recorder.specs.Recording.{EndsWith, FailsWith, IsFrontOfTheRun}
 use Rattle.run_commands.specs.Recorded.{FileEnds, FileFails}
-use Rattle.run_commands.specs.Records.{IsStarted}
+use Rattle.run_commands.specs.Records.{IsCutShort, IsStarted}
 
 -- the frame of a sink over the file of this name
 abbrev pub frame : List ℕ → Option Files → (List ℕ → ℕ) → ℕ → Frame
@@ -109,6 +109,28 @@ file-ends w runs stands started files now name reads before starts first (outcom
     let left = whole-left started files now name (trace_of w.bound.channels rows) reads before starts first over kept.told in
     (rows, (run, left.0, left.1), is)
 
+-- what a failed write leaves
+left-short : (w : Course) (files now : Option Files) (name bytes : List ℕ) (first starts : ℕ) (rows : List Row) → IsRunOf w rows
+    → IsFrontOfTheRun w rows bytes → IsHeld files now name bytes first starts ⊎ IsUnstarted files now name bytes first starts
+    → IsCutShort w files name (HasStarted first starts) now
+left-short w files now name bytes first starts rows run front (inl is) =
+    inr (true, is.once, rows, bytes, run, front, is.held, λ e. absurd (true≢false e))
+left-short w None now name bytes first starts rows run front (inr is) = inl (is.none, ⊎_elim (λ same. same) (λ same. same) is.kept)
+left-short w (Some m) now name bytes first starts rows run front (inr is) = kept is.kept
+  where
+    kept : (now ≡ Some m) ⊎ (now ≡ emptied (Some m) name) → IsCutShort w (Some m) name (HasStarted first starts) now
+    kept (inl same) = inl (is.none, same)
+    kept (inr same) = inr (
+      false,
+      is.none,
+      rows,
+      [],
+      run,
+      subst (λ (bs : List ℕ). IsFrontOfTheRun w rows bs) is.empty front,
+      same,
+      λ _. refl,
+    )
+
 pub file-fails : (w : Course) (runs : Design → Values → Option Row → Type 0) (stands : List Row → Type 0) (started : Bool)
     (files now : Option Files) (name : List ℕ) (reads before : List ℕ → ℕ) (starts first : ℕ) (e : RecordError)
     → IsOver started now name reads starts (frame name files before first)
@@ -117,12 +139,10 @@ pub file-fails : (w : Course) (runs : Design → Values → Option Row → Type 
     → FileFails w files name (HasStarted first starts) now e
 file-fails w runs stands started files now name reads before starts first errors.Memory over is kept lawful = kept refl
 file-fails w runs stands started files now name reads before starts first errors.WriteFault over cut kept lawful =
-    short (over-left started files now name cut.bytes reads before starts first over cut.told)
-  where
-    short : IsHeld files now name cut.bytes first starts ⊎ IsUnstarted files now name cut.bytes first starts
-        → FileFails w files name (HasStarted first starts) now errors.WriteFault
-    short (inl is) = inr (is.once, cut.rows, cut.bytes, cut.reached.0, cut.of_the_run lawful, is.held)
-    short (inr is) = inl (is.none, is.kept)
+    let rows = cut.rows in
+    let front = cut.of_the_run lawful in
+    let left = over-left started files now name cut.bytes reads before starts first over cut.told in
+    left-short w files now name cut.bytes first starts rows cut.reached.0 front left
 
 -- what holds of what a call gives, and of the error that it gives
 pub if-ends : {X E : Type 0} {P Q : X → Type 0} (r : Result X E) → IfOk r P → ((x : X) → P x → Q x) → IfOk r Q

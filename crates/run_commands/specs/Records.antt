@@ -1,6 +1,6 @@
 -- What `record DESIGN MAP SCRIPT STALLS TRACE` owes: each step of it in its order, and what is left in TRACE.
-use Rattle.std.specs.Prelude.{◌≡◌, ℕ, ◌<◌, ◌≤◌, ◌⊎◌, Bool, true, false, List, Option, None, Some, Ok, Err, length}
-use Rattle.vidi_recorder.specs.vidi_io.Shelf.{Files, emptied, holding}
+use Rattle.std.specs.Prelude.{◌≡◌, ℕ, ◌<◌, ◌≤◌, ◌⊎◌, Bool, false, List, [], Option, None, Some, Ok, Err, length}
+use Rattle.vidi_recorder.specs.vidi_io.Shelf.{Files, holding}
 use Rattle.vidi_recorder.specs.vidi_io.Writing.{IsKept}
 use Rattle.bench_run.specs.trace_model.declared.channel.Channel.{Channel}
 use Rattle.bench_run.specs.trace_model.declared.row.Row.{Row}
@@ -100,12 +100,12 @@ Records design map script stalls trace files ReadFailed Started status text left
 
 -- ---- a write of TRACE failed
 
--- No start succeeded, and TRACE is as at entry or empty. Or it was started exactly once, and holds a front of the encoding of the run's
--- trace; the run is there, and these rows are its first.
+-- TRACE is as at entry, as no start succeeded. Or it holds a front of the encoding of the run's trace, for which it was started exactly
+-- once, or is empty, as a start failed; the run is there, and these rows are its first.
 abbrev pub IsCutShort : Course → Option Files → List ℕ → (Bool → Type 0) → Option Files → Type 0
-IsCutShort w files trace Started left = (Started false × ((left ≡ files) ⊎ (left ≡ emptied files trace)))
-    ⊎ (Started true × (rows : List Row) × (bytes : List ℕ) × IsRunOf w rows × IsFrontOfTheRun w rows bytes
-    × (left ≡ holding files trace bytes))
+IsCutShort w files trace Started left = (Started false × (left ≡ files))
+    ⊎ ((once : Bool) × Started once × (rows : List Row) × (bytes : List ℕ) × IsRunOf w rows × IsFrontOfTheRun w rows bytes
+    × (left ≡ holding files trace bytes) × (once ≡ false → bytes ≡ []))
 
 abbrev pub StopsRecording : List ℕ → List ℕ → List ℕ → List ℕ → List ℕ → Option Files → (Bool → Type 0) → Option Files → Type 0
 StopsRecording design map script stalls trace files Started left = (b : Bench) × (plan : Stalls)

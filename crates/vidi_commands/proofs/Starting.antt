@@ -53,8 +53,9 @@ stops-once : (c : Command) (files : Option Files) (P : Bool → Type 0) (left : 
 stops-once (Dump trace) files P left is = absurd is
 stops-once (Check design top) files P left is = absurd is
 stops-once (Run design map script) files P left is = absurd is
-stops-once (Record design map script stalls trace) files P left (b, plan, planned, inl (none, kept)) = (false, none)
-stops-once (Record design map script stalls trace) files P left (b, plan, planned, inr (once, rows, bytes, run, front, held)) = (true, once)
+stops-once (Record design map script stalls trace) files P left (b, plan, planned, inl (none, same)) = (false, none)
+stops-once (Record design map script stalls trace) files P left (b, plan, planned, inr (once, is, rows, bytes, run, front, held, empty)) =
+    (once, is)
 stops-once (Replay design map trace n out) files P left (v, t, is, (rows, outcome, run, cut)) = cut-once files out _ P left cut
 stops-once (Compare trace other) files P left is = absurd is
 stops-once (Salvage trace out) files P left (t, whole, cut) = cut-once files out _ P left cut
