@@ -1,5 +1,5 @@
 -- The command `replay`: no failed write among its answers, and the same where no read failed.
-use Rattle.std.proofs.Common.{◌≡◌, ℕ, List, Option, inl, inr}
+use Rattle.std.proofs.Common.{◌≡◌, ℕ, Bool, List, Option, inl, inr}
 use Rattle.replay_run.specs.trace_model.declared.channel.Channel.{Channel}
 use Rattle.replay_run.specs.trace_model.declared.trace.Trace.{Trace}
 use Rattle.replay_run.specs.trace_model.Recording.{trace_of}
@@ -43,17 +43,17 @@ mute-replay_said t u n (outcomes.Ended cycles) x v = mute-verdict (replayed_line
 mute-replay_said t u n (outcomes.Short helds events) x s = let e : WriteFault ≡ Short helds events = s.0 in cc
 mute-replay_said t u n (outcomes.Unstable channel cycle) x s = let e : WriteFault ≡ Unstable channel cycle = s.0 in cc
 
-pub mute-replays : (design map trace : List ℕ) (n : ℕ) (out : List ℕ) (files : Option Files) (F : List ℕ → Type 0) (x : List ℕ)
-    (left : Option Files) → Replays design map trace n out files F WriteFault x left → ⊥
-mute-replays design map trace n out files F x left (inl (unreplayed, same)) = mute-unreplayed design map trace files F x unreplayed
-mute-replays design map trace n out files F x left (inr (v, t, replayable, (rows, outcome, is, s, held))) =
+pub mute-replays : (design map trace : List ℕ) (n : ℕ) (out : List ℕ) (files : Option Files) (F : List ℕ → Type 0) (P : Bool → Type 0)
+    (x : List ℕ) (left : Option Files) → Replays design map trace n out files F P WriteFault x left → ⊥
+mute-replays design map trace n out files F P x left (inl (unreplayed, same)) = mute-unreplayed design map trace files F x unreplayed
+mute-replays design map trace n out files F P x left (inr (v, t, replayable, (rows, outcome, is, s, held))) =
     mute-replay_said t (trace_of v.map.channels rows) n outcome x s
 
 -- ---- where no read failed
-pub quiet-replays : (design map trace : List ℕ) (n : ℕ) (out : List ℕ) (files : Option Files) (F : List ℕ → Type 0) (a : Status)
-    (x : List ℕ) (left : Option Files) → ((name : List ℕ) → ¬ F name) → Replays design map trace n out files F a x left
-    → Replays design map trace n out files (λ _. ⊥) a x left
-quiet-replays design map trace n out files F a x left quiet (inl (unreplayed, same)) =
+pub quiet-replays : (design map trace : List ℕ) (n : ℕ) (out : List ℕ) (files : Option Files) (F : List ℕ → Type 0) (P : Bool → Type 0)
+    (a : Status) (x : List ℕ) (left : Option Files) → ((name : List ℕ) → ¬ F name) → Replays design map trace n out files F P a x left
+    → Replays design map trace n out files (λ _. ⊥) P a x left
+quiet-replays design map trace n out files F P a x left quiet (inl (unreplayed, same)) =
     inl (
       quiet-reading text_limit words.Design design files F _ _ (quiet design)
           (λ d. quiet-reading text_limit words.Map map files F _ _ (quiet map)
@@ -61,4 +61,4 @@ quiet-replays design map trace n out files F a x left quiet (inl (unreplayed, sa
           (λ text b y rest. rest))) a x unreplayed,
       same,
     )
-quiet-replays design map trace n out files F a x left quiet (inr replayed) = inr replayed
+quiet-replays design map trace n out files F P a x left quiet (inr replayed) = inr replayed

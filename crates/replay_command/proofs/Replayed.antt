@@ -1,15 +1,17 @@
 -- From the texts of a replay, and from the replay, to the answer of `replay`.
-use Rattle.std.proofs.Common.{◌≡◌, ℕ, List, Option, Result, Ok, Err, inr, sym, subst, ◌∙◌}
+use Rattle.std.proofs.Common.{◌≡◌, ℕ, Bool, true, false, List, Option, Result, Ok, Err, inr, sym, subst, ◌∙◌}
 use Rattle.std.specs.Prelude.{IfOk, IfErr}
 use Rattle.replay_run.specs.trace_model.declared.trace.Trace.{Trace}
 use Rattle.replay_run.specs.trace_model.Recording.{trace_of}
 use Rattle.replay_run.specs.trace_code.Encoding.{Encodes, encode}
 use Rattle.trace_commands.specs.vidi_io.Shelf.{Files}
+use Rattle.trace_commands.specs.vidi_io.Writing.{IsKept}
 use Rattle.trace_commands.proofs.vidi_io_lemmas.Cut.{cut-knowing}
 use Rattle.trace_commands.specs.vidi_bench.declared.answer.Answer.{Answer}
 use Rattle.trace_commands.specs.vidi_bench.declared.answer.Ended.{Ended}
 use Rattle.trace_commands.specs.vidi_bench.declared.answer.Ended.TheVariants as ends
 use Rattle.trace_commands.specs.vidi_bench.declared.device.Device.{Device}
+use Rattle.trace_commands.specs.vidi_bench.declared.status.Status.{Status}
 use Rattle.replay_command.specs.declared.replaying.Replayable.{Replayable}
 use Rattle.trace_commands.specs.vidi_bench.AnswerText.{text_of}
 use Rattle.trace_commands.specs.vidi_bench.Design.{text_limit}
@@ -43,16 +45,27 @@ pub bytes-encode : (b : List ℕ) (r : Result Replayable Ended) → IfOk r (λ p
 bytes-encode b (Ok p) same encodes = subst (λ (x : List ℕ). Encodes p.trace x) (sym same) encodes
 bytes-encode b (Err e) same encodes = tt
 
+-- the same of what else is known of the starts
+replayed-knowing : (v : Device) (t : Trace) (n : ℕ) (out : List ℕ) (files left : Option Files) (P Q : Bool → Type 0)
+    (status : Status) (text : List ℕ) → ((once : Bool) → P once → Q once) → ReplaysTrace v t n out files P status text left
+    → ReplaysTrace v t n out files Q status text left
+replayed-knowing v t n out files left P Q status text known (rows, outcome, run, said, (held, once)) =
+    (rows, outcome, run, said, (held, known true once))
+
 -- what is owed for what can be replayed
 pub replayed-owed : (design map trace : List ℕ) (n : ℕ) (out : List ℕ) (files now left : Option Files) (F : List ℕ → Type 0) (v : Device)
-    (t : Trace) (V W X Y : Type 0) (r : Result Answer Ended) → now ≡ files → IsReplayable design map trace files v t → (V → W) → (X → Y)
-    → IfOk r (λ a. ReplaysTrace v t n out now a.status (text_of a.text) left)
-    → IfErr r (IsStopped (CutsReplay v t n out now X) V now left)
-    → Owes (Replays design map trace n out files F) (StopsReplaying design map trace n out files Y) W files left r
-replayed-owed design map trace n out files now left F v t V W X Y (Ok a) same is why kept replayed stopped =
-    inr (v, t, is, subst (λ (fs : Option Files). ReplaysTrace v t n out fs a.status (text_of a.text) left) same replayed)
-replayed-owed design map trace n out files now left F v t V W X Y (Err (ends.Refused a)) same is why kept replayed stopped = absurd stopped
-replayed-owed design map trace n out files now left F v t V W X Y (Err ends.WriteFault) same is why kept replayed (failed, (rows, outcome, run, cut)) =
-    let known = cut-knowing now left out (encode (trace_of v.map.channels rows)) X Y kept cut in
-    (why failed, (v, t, is, subst (λ (fs : Option Files). CutsReplay v t n out fs Y left) same (rows, outcome, run, known)))
-replayed-owed design map trace n out files now left F v t V W X Y (Err ends.Memory) same is why kept replayed stays = stays ∙ same
+    (t : Trace) (V W : Type 0) (P Q : Bool → Type 0) (r : Result Answer Ended) → now ≡ files → IsReplayable design map trace files v t
+    → (V → W) → ((once : Bool) → P once → Q once)
+    → IfOk r (λ a. ReplaysTrace v t n out now P a.status (text_of a.text) left)
+    → IfErr r (IsStopped (CutsReplay v t n out now P) V (IsKept now P) left)
+    → Owes (Replays design map trace n out files F Q) (StopsReplaying design map trace n out files Q) W (IsKept files Q) left r
+replayed-owed design map trace n out files now left F v t V W P Q (Ok a) same is why kept replayed stopped =
+    let known = replayed-knowing v t n out now left P Q a.status (text_of a.text) kept replayed in
+    inr (v, t, is, subst (λ (fs : Option Files). ReplaysTrace v t n out fs Q a.status (text_of a.text) left) same known)
+replayed-owed design map trace n out files now left F v t V W P Q (Err (ends.Refused a)) same is why kept replayed stopped = absurd stopped
+replayed-owed design map trace n out files now left F v t V W P Q (Err ends.WriteFault) same is why kept replayed
+    (failed, (rows, outcome, run, cut)) =
+    let known = cut-knowing now left out (encode (trace_of v.map.channels rows)) P Q kept cut in
+    (why failed, (v, t, is, subst (λ (fs : Option Files). CutsReplay v t n out fs Q left) same (rows, outcome, run, known)))
+replayed-owed design map trace n out files now left F v t V W P Q (Err ends.Memory) same is why kept replayed (stays, none) =
+    (stays ∙ same, kept false none)

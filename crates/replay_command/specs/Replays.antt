@@ -1,7 +1,7 @@
 -- What `replay DESIGN MAP TRACE CYCLES OUT` owes: each step of it in its order, and what is left in OUT.
-use Rattle.std.specs.Prelude.{◌≡◌, ℕ, ◌⊎◌, List, Option}
-use Rattle.trace_commands.specs.vidi_io.Shelf.{Files, holding}
-use Rattle.trace_commands.specs.vidi_io.Writing.{IsCutOff}
+use Rattle.std.specs.Prelude.{◌≡◌, ℕ, ◌⊎◌, Bool, List, Option}
+use Rattle.trace_commands.specs.vidi_io.Shelf.{Files}
+use Rattle.trace_commands.specs.vidi_io.Writing.{IsCutOff, IsKept, IsWritten}
 use Rattle.replay_run.specs.trace_model.declared.row.Row.{Row}
 use Rattle.replay_run.specs.trace_model.declared.trace.Trace.{Trace}
 use Rattle.replay_run.specs.trace_model.Recording.{trace_of}
@@ -63,23 +63,24 @@ IsReplaySaid t u n (outcomes.Unstable channel cycle) = IsSaid (Unstable channel 
 abbrev pub IsTheReplay : Device → Trace → ℕ → List Row → ReplayOutcome → Type 0
 IsTheReplay v t n rows outcome = EndsAs v.design v.map t.packets n rows outcome
 
--- OUT is the encoding of the replay's trace, however it ends
-abbrev pub ReplaysTrace : Device → Trace → ℕ → List ℕ → Option Files → Status → List ℕ → Option Files → Type 0
-ReplaysTrace v t n out files status text left = (rows : List Row) × (outcome : ReplayOutcome) × IsTheReplay v t n rows outcome
+-- OUT was started once, and is the encoding of the replay's trace, however it ends
+abbrev pub ReplaysTrace : Device → Trace → ℕ → List ℕ → Option Files → (Bool → Type 0) → Status → List ℕ → Option Files → Type 0
+ReplaysTrace v t n out files Started status text left = (rows : List Row) × (outcome : ReplayOutcome) × IsTheReplay v t n rows outcome
     × IsReplaySaid t (trace_of v.map.channels rows) n outcome status text
-    × (left ≡ holding files out (encode (trace_of v.map.channels rows)))
+    × IsWritten files out (encode (trace_of v.map.channels rows)) Started left
 
-abbrev pub Replays : List ℕ → List ℕ → List ℕ → ℕ → List ℕ → Option Files → (List ℕ → Type 0) → Status → List ℕ → Option Files → Type 0
-Replays design map trace n out files ReadFailed status text left =
-    (IsUnreplayed design map trace files ReadFailed status text × (left ≡ files))
-    ⊎ ((v : Device) × (t : Trace) × IsReplayable design map trace files v t × ReplaysTrace v t n out files status text left)
+abbrev pub Replays : List ℕ → List ℕ → List ℕ → ℕ → List ℕ → Option Files → (List ℕ → Type 0) → (Bool → Type 0) → Status → List ℕ
+    → Option Files → Type 0
+Replays design map trace n out files ReadFailed Started status text left =
+    (IsUnreplayed design map trace files ReadFailed status text × IsKept files Started left)
+    ⊎ ((v : Device) × (t : Trace) × IsReplayable design map trace files v t × ReplaysTrace v t n out files Started status text left)
 
 -- ---- writing OUT was cut off
 
-abbrev pub CutsReplay : Device → Trace → ℕ → List ℕ → Option Files → Type 0 → Option Files → Type 0
-CutsReplay v t n out files Unstarted left = (rows : List Row) × (outcome : ReplayOutcome) × IsTheReplay v t n rows outcome
-    × IsCutOff files out (encode (trace_of v.map.channels rows)) Unstarted left
+abbrev pub CutsReplay : Device → Trace → ℕ → List ℕ → Option Files → (Bool → Type 0) → Option Files → Type 0
+CutsReplay v t n out files Started left = (rows : List Row) × (outcome : ReplayOutcome) × IsTheReplay v t n rows outcome
+    × IsCutOff files out (encode (trace_of v.map.channels rows)) Started left
 
-abbrev pub StopsReplaying : List ℕ → List ℕ → List ℕ → ℕ → List ℕ → Option Files → Type 0 → Option Files → Type 0
-StopsReplaying design map trace n out files Unstarted left =
-    (v : Device) × (t : Trace) × IsReplayable design map trace files v t × CutsReplay v t n out files Unstarted left
+abbrev pub StopsReplaying : List ℕ → List ℕ → List ℕ → ℕ → List ℕ → Option Files → (Bool → Type 0) → Option Files → Type 0
+StopsReplaying design map trace n out files Started left =
+    (v : Device) × (t : Trace) × IsReplayable design map trace files v t × CutsReplay v t n out files Started left

@@ -11,7 +11,8 @@ ghost use Rattle.replay_run.specs.run_model.MapOf.{IsMapOf};
 ghost use Rattle.replay_run.specs.Replaying.{EndsAs};
 ghost use Rattle.replay_run.specs.trace_model.declared.packet.TheConstants.{MOST_CYCLES};
 ghost use Rattle.trace_commands.specs.vidi_io.Cause.{Rose};
-ghost use Rattle.trace_commands.specs.vidi_io.Shelf.{Later};
+ghost use Rattle.trace_commands.specs.vidi_io.Shelf.{HasStarted, Later};
+ghost use Rattle.trace_commands.specs.vidi_io.Writing.{IsKept};
 ghost use Rattle.trace_commands.specs.vidi_bench.AnswerText.{text_of};
 ghost use Rattle.trace_commands.specs.vidi_bench.Design.{text_limit};
 ghost use Rattle.trace_commands.specs.vidi_bench.Devices.{IsDevice, IsRunnable};
@@ -61,9 +62,10 @@ pub fn replay<S: Shelf>(
 ) -> Result<Answer, Ended>
     requires few { cycles ≤ MOST_CYCLES }
     ensures owed { Owes (Replays design.now map.now trace.now cycles out.now (S.files shelf.old)
-        (λ name. Rose (S.read_faults shelf.old name) (S.read_faults shelf.new name)))
-        (StopsReplaying design.now map.now trace.now cycles out.now (S.files shelf.old) (S.starts shelf.new ≡ S.starts shelf.old))
-        (Rose (S.write_faults shelf.old) (S.write_faults shelf.new)) (S.files shelf.old) (S.files shelf.new) result }
+        (λ name. Rose (S.read_faults shelf.old name) (S.read_faults shelf.new name)) (HasStarted (S.starts shelf.old) (S.starts shelf.new)))
+        (StopsReplaying design.now map.now trace.now cycles out.now (S.files shelf.old)
+        (HasStarted (S.starts shelf.old) (S.starts shelf.new))) (Rose (S.write_faults shelf.old) (S.write_faults shelf.new))
+        (IsKept (S.files shelf.old) (HasStarted (S.starts shelf.old) (S.starts shelf.new))) (S.files shelf.new) result }
     ensures counts { Later (S.read_faults shelf.old) (S.read_faults shelf.new) (S.write_faults shelf.old) (S.write_faults shelf.new) }
 {
     let plan = plan_replay(alloc, design, map, trace, shelf)?;
@@ -138,10 +140,11 @@ fn replayed<S: Shelf>(
     requires encodes { Encodes plan.trace plan.bytes }
     requires same { plan.trace.channels ≡ plan.device.map.channels }
     requires few { cycles ≤ MOST_CYCLES }
-    ensures done { IfOk result (λ a. ReplaysTrace plan.device plan.trace cycles out.now (S.files shelf.old) a.status (text_of a.text)
-        (S.files shelf.new)) }
+    ensures done { IfOk result (λ a. ReplaysTrace plan.device plan.trace cycles out.now (S.files shelf.old)
+        (HasStarted (S.starts shelf.old) (S.starts shelf.new)) a.status (text_of a.text) (S.files shelf.new)) }
     ensures stopped { IfErr result (IsStopped (CutsReplay plan.device plan.trace cycles out.now (S.files shelf.old)
-        (S.starts shelf.new ≡ S.starts shelf.old)) (Rose (S.write_faults shelf.old) (S.write_faults shelf.new)) (S.files shelf.old) (S.files shelf.new)) }
+        (HasStarted (S.starts shelf.old) (S.starts shelf.new))) (Rose (S.write_faults shelf.old) (S.write_faults shelf.new))
+        (IsKept (S.files shelf.old) (HasStarted (S.starts shelf.old) (S.starts shelf.new))) (S.files shelf.new)) }
     ensures counts { Later (S.read_faults shelf.old) (S.read_faults shelf.new) (S.write_faults shelf.old) (S.write_faults shelf.new) }
 {
     let Replayable {

@@ -1,5 +1,5 @@
 -- The commands on designs: no failed write among their answers, and the same where no read failed.
-use Rattle.std.proofs.Common.{◌≡◌, ℕ, List, Option, None, Some, Ok, inl, inr, length}
+use Rattle.std.proofs.Common.{◌≡◌, ℕ, Bool, List, Option, None, Some, Ok, inl, inr, length}
 use Rattle.bench_run.specs.trace_model.declared.channel.Channel.{Channel}
 use Rattle.bench_run.specs.trace_model.declared.row.Row.{Row}
 use Rattle.bench_run.specs.trace_model.Recording.{packets_of}
@@ -73,12 +73,12 @@ mute-recorded channels rows None = mute-said Done (recorded_line (length rows) (
 mute-recorded channels rows (Some c) =
     mute-said (Unstable c (length rows)) (unstable_line channels c (length rows)) (unstable-goes c (length rows))
 
-pub mute-records : (design m script stalls trace : List ℕ) (files : Option Files) (F : List ℕ → Type 0) (x : List ℕ) (left : Option Files)
-    → Records design m script stalls trace files F WriteFault x left → ⊥
-mute-records design m script stalls trace files F x left (inl (u, same)) = mute-texts design m script files F
+pub mute-records : (design m script stalls trace : List ℕ) (files : Option Files) (F : List ℕ → Type 0) (P : Bool → Type 0) (x : List ℕ)
+    (left : Option Files) → Records design m script stalls trace files F P WriteFault x left → ⊥
+mute-records design m script stalls trace files F P x left (inl (u, same)) = mute-texts design m script files F
     (λ d n s. Reading text_limit words.Stalls stalls files F (RefusedPlanned d n s))
     (λ d n s. mute-reading text_limit words.Stalls stalls files F (RefusedPlanned d n s) (mute-planned d n s)) x u
-mute-records design m script stalls trace files F x left (inr (b, plan, planned, (rows, stop, leaves, recorded))) =
+mute-records design m script stalls trace files F P x left (inr (b, plan, planned, (rows, stop, leaves, recorded))) =
     mute-recorded b.device.map.channels rows stop x recorded
 
 -- ---- where no read failed
@@ -91,10 +91,10 @@ pub quiet-runs : (design m script : List ℕ) (files : Option Files) (F : List �
     → Implies (Runs design m script files F) (Runs design m script files (λ _. ⊥))
 quiet-runs design m script files F quiet = quiet-texts design m script files F RunTexts RunTexts quiet (λ d n s a x rest. rest)
 
-pub quiet-records : (design m script stalls trace : List ℕ) (files : Option Files) (F : List ℕ → Type 0) (a : Status) (x : List ℕ)
-    (left : Option Files) → ((name : List ℕ) → ¬ F name) → Records design m script stalls trace files F a x left
-    → Records design m script stalls trace files (λ _. ⊥) a x left
-quiet-records design m script stalls trace files F a x left quiet (inl (unrecorded, same)) =
+pub quiet-records : (design m script stalls trace : List ℕ) (files : Option Files) (F : List ℕ → Type 0) (P : Bool → Type 0) (a : Status)
+    (x : List ℕ) (left : Option Files) → ((name : List ℕ) → ¬ F name) → Records design m script stalls trace files F P a x left
+    → Records design m script stalls trace files (λ _. ⊥) P a x left
+quiet-records design m script stalls trace files F P a x left quiet (inl (unrecorded, same)) =
     inl (
       quiet-texts design m script files F (λ d n s. Reading text_limit words.Stalls stalls files F (RefusedPlanned d n s))
           (λ d n s. Reading text_limit words.Stalls stalls files (λ _. ⊥) (RefusedPlanned d n s)) quiet
@@ -102,4 +102,4 @@ quiet-records design m script stalls trace files F a x left quiet (inl (unrecord
           (λ text b y rest. rest)) a x unrecorded,
       same,
     )
-quiet-records design m script stalls trace files F a x left quiet (inr recorded) = inr recorded
+quiet-records design m script stalls trace files F P a x left quiet (inr recorded) = inr recorded

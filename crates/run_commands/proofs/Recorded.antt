@@ -1,8 +1,9 @@
 -- From a recording into a file to the answer of `record`.
-use Rattle.std.proofs.Common.{◌≡◌, ℕ, List, Option, None, Some, Result, Ok, Err, length, inl, inr, sym, ap, subst, ◌∙◌}
+use Rattle.std.proofs.Common.{◌≡◌, ℕ, Bool, true, false, List, Option, None, Some, Result, Ok, Err, length, inl, inr, sym, ap, subst, ◌∙◌}
 use Rattle.std.specs.Prelude.{IfOk, IfErr}
 use Rattle.bench_run.specs.env_script.declared.stalls.Stalls.{Stalls}
 use Rattle.vidi_recorder.specs.vidi_io.Shelf.{Files}
+use Rattle.vidi_recorder.specs.vidi_io.Writing.{IsKept}
 use Rattle.vidi_recorder.specs.declared.error.Outcome.{Outcome}
 use Rattle.vidi_recorder.specs.declared.error.Outcome.TheVariants as outcomes
 use Rattle.vidi_recorder.specs.Course.{Course}
@@ -18,10 +19,10 @@ use Rattle.run_commands.specs.Recorded.{FileEnds, IsOutcome}
 use Rattle.run_commands.specs.Records.{course_of, IsCutShort, IsPlanned, Records, RecordsRun, StopsRecording}
 use Rattle.run_commands.specs.Said.{recorded_line, unstable_line}
 
-pub told-recorded : (w : Course) (files left : Option Files) (trace : List ℕ) (o : Outcome) (cycles : ℕ) (status : Status) (text : List ℕ)
-    → cycles ≡ w.cycles → FileEnds w files trace left o → IsOutcome w.bound.channels cycles o status text
-    → RecordsRun w trace files status text left
-told-recorded w files left trace (outcomes.Whole packets) cycles status text same (rows, leaves, is) said = (
+pub told-recorded : (w : Course) (files left : Option Files) (trace : List ℕ) (P : Bool → Type 0) (o : Outcome) (cycles : ℕ)
+    (status : Status) (text : List ℕ) → cycles ≡ w.cycles → FileEnds w files trace P left o
+    → IsOutcome w.bound.channels cycles o status text → RecordsRun w trace files P status text left
+told-recorded w files left trace P (outcomes.Whole packets) cycles status text same (rows, leaves, is) said = (
   rows,
   None,
   leaves,
@@ -30,33 +31,42 @@ told-recorded w files left trace (outcomes.Whole packets) cycles status text sam
     said.1 ∙ ap (λ (n : ℕ). recorded_line n packets) (same ∙ sym leaves.0.2) ∙ ap (λ (n : ℕ). recorded_line (length rows) n) is,
   ),
 )
-told-recorded w files left trace (outcomes.Unstable channel cycle packets) cycles status text same (rows, leaves, is) said = (
+told-recorded w files left trace P (outcomes.Unstable channel cycle packets) cycles status text same (rows, leaves, is) said = (
   rows,
   Some channel,
   leaves,
   (said.0 ∙ ap (λ (n : ℕ). Unstable channel n) is, said.1 ∙ ap (λ (n : ℕ). unstable_line w.bound.channels channel n) is),
 )
 
--- a file that is as before, of which as much is known besides
-short-knowing : (w : Course) (files left : Option Files) (trace : List ℕ) (U V : Type 0) → (U → V) → IsCutShort w files trace U left
-    → IsCutShort w files trace V left
-short-knowing w files left trace U V known (inl (same, is)) = inl (same, known is)
-short-knowing w files left trace U V known (inr held) = inr held
+-- the same of what else is known of the starts
+module _ (w : Course) (files left : Option Files) (trace : List ℕ) (P Q : Bool → Type 0) (known : (once : Bool) → P once → Q once) where
+  short-knowing : IsCutShort w files trace P left → IsCutShort w files trace Q left
+  short-knowing (inl (none, same)) = inl (known false none, same)
+  short-knowing (inr (once, is, rows, bytes, run, front, held, empty)) = inr (once, known once is, rows, bytes, run, front, held, empty)
+
+  run-knowing : (status : Status) (text : List ℕ) → RecordsRun w trace files P status text left
+      → RecordsRun w trace files Q status text left
+  run-knowing status text (rows, stop, (run, held, (once, is, told)), said) =
+      (rows, stop, (run, held, (once, known once is, told)), said)
 
 -- what is owed for a recording that was planned
 pub recorded-owed : (design map script stalls trace : List ℕ) (files now left : Option Files) (F : List ℕ → Type 0) (b : Bench)
-    (plan : Stalls) (V W X Y : Type 0) (r : Result Answer Ended) → now ≡ files → IsPlanned design map script stalls files b plan → (V → W)
-    → (X → Y) → IfOk r (λ a. RecordsRun (course_of b plan) trace now a.status (text_of a.text) left)
-    → IfErr r (IsStopped (IsCutShort (course_of b plan) now trace X) V now left)
-    → Owes (Records design map script stalls trace files F) (StopsRecording design map script stalls trace files Y) W files left r
-recorded-owed design map script stalls trace files now left F b plan V W X Y (Ok a) same planned why kept run stopped =
-    inr (b, plan, planned, subst (λ (fs : Option Files). RecordsRun (course_of b plan) trace fs a.status (text_of a.text) left) same run)
-recorded-owed design map script stalls trace files now left F b plan V W X Y (Err (ends.Refused a)) same planned why kept run stopped =
+    (plan : Stalls) (V W : Type 0) (P Q : Bool → Type 0) (r : Result Answer Ended) → now ≡ files
+    → IsPlanned design map script stalls files b plan → (V → W) → ((once : Bool) → P once → Q once)
+    → IfOk r (λ a. RecordsRun (course_of b plan) trace now P a.status (text_of a.text) left)
+    → IfErr r (IsStopped (IsCutShort (course_of b plan) now trace P) V (IsKept now P) left)
+    → Owes (Records design map script stalls trace files F Q) (StopsRecording design map script stalls trace files Q) W (IsKept files Q)
+    left r
+recorded-owed design map script stalls trace files now left F b plan V W P Q (Ok a) same planned why kept run stopped =
+    let known = run-knowing (course_of b plan) now left trace P Q kept a.status (text_of a.text) run in
+    inr (b, plan, planned, subst (λ (fs : Option Files). RecordsRun (course_of b plan) trace fs Q a.status (text_of a.text) left) same known)
+recorded-owed design map script stalls trace files now left F b plan V W P Q (Err (ends.Refused a)) same planned why kept run stopped =
     absurd stopped
-recorded-owed design map script stalls trace files now left F b plan V W X Y (Err ends.WriteFault) same planned why kept run (failed, cut) =
-    let known = short-knowing (course_of b plan) now left trace X Y kept cut in
-    (why failed, (b, plan, planned, subst (λ (fs : Option Files). IsCutShort (course_of b plan) fs trace Y left) same known))
-recorded-owed design map script stalls trace files now left F b plan V W X Y (Err ends.Memory) same planned why kept run stays = stays ∙ same
+recorded-owed design map script stalls trace files now left F b plan V W P Q (Err ends.WriteFault) same planned why kept run (failed, cut) =
+    let known = short-knowing (course_of b plan) now left trace P Q kept cut in
+    (why failed, (b, plan, planned, subst (λ (fs : Option Files). IsCutShort (course_of b plan) fs trace Q left) same known))
+recorded-owed design map script stalls trace files now left F b plan V W P Q (Err ends.Memory) same planned why kept run (stays, none) =
+    (stays ∙ same, kept false none)
 
 -- at what a design, a script and a number of cycles are
 pub at-these : {S : Type 0} (P : S → ℕ → Type 0) (s t : S) (n k : ℕ) → s ≡ t → n ≡ k → P s n → P t k

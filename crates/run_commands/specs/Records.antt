@@ -1,6 +1,7 @@
 -- What `record DESIGN MAP SCRIPT STALLS TRACE` owes: each step of it in its order, and what is left in TRACE.
-use Rattle.std.specs.Prelude.{◌≡◌, ℕ, ◌<◌, ◌≤◌, ◌⊎◌, List, Option, None, Some, Ok, Err, length}
+use Rattle.std.specs.Prelude.{◌≡◌, ℕ, ◌<◌, ◌≤◌, ◌⊎◌, Bool, false, List, [], Option, None, Some, Ok, Err, length}
 use Rattle.vidi_recorder.specs.vidi_io.Shelf.{Files, holding}
+use Rattle.vidi_recorder.specs.vidi_io.Writing.{IsKept}
 use Rattle.bench_run.specs.trace_model.declared.channel.Channel.{Channel}
 use Rattle.bench_run.specs.trace_model.declared.row.Row.{Row}
 use Rattle.bench_run.specs.trace_model.Recording.{packets_of, trace_of}
@@ -77,30 +78,35 @@ abbrev pub IsRecorded : List Channel → List Row → Option ℕ → Ending
 IsRecorded channels rows None = IsSaid Done (recorded_line (length rows) (length (packets_of channels rows)))
 IsRecorded channels rows (Some channel) = IsSaid (Unstable channel (length rows)) (unstable_line channels channel (length rows))
 
--- the rows are the run, and TRACE is the encoding of their trace
-abbrev pub Leaves : Course → Option Files → List ℕ → Option Files → List Row → Option ℕ → Type 0
-Leaves w files trace left rows stop = IsTheRunOf w rows stop
-    × (left ≡ holding files trace (encode (trace_of w.bound.channels rows)))
+-- exactly one start succeeded; of files that aren't told, one or none
+abbrev pub IsStarted : Option Files → (Bool → Type 0) → Type 0
+IsStarted files Started = (once : Bool) × Started once × (once ≡ false → files ≡ None)
 
-abbrev pub RecordsRun : Course → List ℕ → Option Files → Status → List ℕ → Option Files → Type 0
-RecordsRun w trace files status text left = (rows : List Row) × (stop : Option ℕ) × Leaves w files trace left rows stop
+-- the rows are the run; TRACE was started once, and is the encoding of their trace
+abbrev pub Leaves : Course → Option Files → List ℕ → (Bool → Type 0) → Option Files → List Row → Option ℕ → Type 0
+Leaves w files trace Started left rows stop = IsTheRunOf w rows stop
+    × (left ≡ holding files trace (encode (trace_of w.bound.channels rows))) × IsStarted files Started
+
+abbrev pub RecordsRun : Course → List ℕ → Option Files → (Bool → Type 0) → Status → List ℕ → Option Files → Type 0
+RecordsRun w trace files Started status text left = (rows : List Row) × (stop : Option ℕ) × Leaves w files trace Started left rows stop
     × IsRecorded w.bound.channels rows stop status text
 
-abbrev pub Records : List ℕ → List ℕ → List ℕ → List ℕ → List ℕ → Option Files → (List ℕ → Type 0) → Status → List ℕ → Option Files
-    → Type 0
-Records design map script stalls trace files ReadFailed status text left =
-    (IsUnrecorded design map script stalls files ReadFailed status text × (left ≡ files))
+abbrev pub Records : List ℕ → List ℕ → List ℕ → List ℕ → List ℕ → Option Files → (List ℕ → Type 0) → (Bool → Type 0) → Status → List ℕ
+    → Option Files → Type 0
+Records design map script stalls trace files ReadFailed Started status text left =
+    (IsUnrecorded design map script stalls files ReadFailed status text × IsKept files Started left)
     ⊎ ((b : Bench) × (plan : Stalls) × IsPlanned design map script stalls files b plan
-    × RecordsRun (course_of b plan) trace files status text left)
+    × RecordsRun (course_of b plan) trace files Started status text left)
 
 -- ---- a write of TRACE failed
 
--- TRACE is as at entry, as no start of it succeeded, or holds a front of the encoding of the run's trace; the run is there, and these
--- rows are its first
-abbrev pub IsCutShort : Course → Option Files → List ℕ → Type 0 → Option Files → Type 0
-IsCutShort w files trace Unstarted left = ((left ≡ files) × Unstarted)
-    ⊎ ((rows : List Row) × (bytes : List ℕ) × IsRunOf w rows × IsFrontOfTheRun w rows bytes × (left ≡ holding files trace bytes))
+-- TRACE is as at entry, as no start succeeded. Or it holds a front of the encoding of the run's trace, for which it was started exactly
+-- once, or is empty, as a start failed; the run is there, and these rows are its first.
+abbrev pub IsCutShort : Course → Option Files → List ℕ → (Bool → Type 0) → Option Files → Type 0
+IsCutShort w files trace Started left = (Started false × (left ≡ files))
+    ⊎ ((once : Bool) × Started once × (rows : List Row) × (bytes : List ℕ) × IsRunOf w rows × IsFrontOfTheRun w rows bytes
+    × (left ≡ holding files trace bytes) × (once ≡ false → bytes ≡ []))
 
-abbrev pub StopsRecording : List ℕ → List ℕ → List ℕ → List ℕ → List ℕ → Option Files → Type 0 → Option Files → Type 0
-StopsRecording design map script stalls trace files Unstarted left = (b : Bench) × (plan : Stalls)
-    × IsPlanned design map script stalls files b plan × IsCutShort (course_of b plan) files trace Unstarted left
+abbrev pub StopsRecording : List ℕ → List ℕ → List ℕ → List ℕ → List ℕ → Option Files → (Bool → Type 0) → Option Files → Type 0
+StopsRecording design map script stalls trace files Started left = (b : Bench) × (plan : Stalls)
+    × IsPlanned design map script stalls files b plan × IsCutShort (course_of b plan) files trace Started left

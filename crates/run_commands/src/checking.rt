@@ -31,6 +31,7 @@ pub fn check<S: Shelf>(
     ensures answered { IsAnswered (Checks design.now top.now (S.files shelf.old)
         (λ name. Rose (S.read_faults shelf.old name) (S.read_faults shelf.new name))) result }
     ensures files { S.files shelf.new ≡ S.files shelf.old }
+    ensures starts { S.starts shelf.new ≡ S.starts shelf.old }
     ensures counts { Later (S.read_faults shelf.old) (S.read_faults shelf.new) (S.write_faults shelf.old) (S.write_faults shelf.new) }
 {
     let text = read_file(alloc, Word::Design, design, TEXT_LIMIT, shelf)?;

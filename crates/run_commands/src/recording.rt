@@ -16,7 +16,8 @@ ghost use Rattle.vidi_recorder.specs.room_ledger.Reservation.{need};
 ghost use Rattle.bench_run.specs.env_script.Reasons.{read_lines};
 ghost use Rattle.bench_run.specs.env_script.Stalls.{ReadsStalls};
 ghost use Rattle.vidi_recorder.specs.vidi_io.Cause.{Rose};
-ghost use Rattle.vidi_recorder.specs.vidi_io.Shelf.{Later};
+ghost use Rattle.vidi_recorder.specs.vidi_io.Shelf.{HasStarted, Later};
+ghost use Rattle.vidi_recorder.specs.vidi_io.Writing.{IsKept};
 ghost use Rattle.vidi_recorder.specs.Course.{course, sizes_of};
 ghost use Rattle.vidi_recorder.specs.Recording.{FailsFor};
 ghost use Rattle.vidi_bench.specs.report_text.Pad.{shown, left};
@@ -66,9 +67,10 @@ pub fn record<S: Shelf>(
     shelf: &mut S,
 ) -> Result<Answer, Ended>
     ensures owed { Owes (Records design.now map.now script.now stalls.now trace.now (S.files shelf.old)
-        (λ name. Rose (S.read_faults shelf.old name) (S.read_faults shelf.new name)))
-        (StopsRecording design.now map.now script.now stalls.now trace.now (S.files shelf.old) (S.starts shelf.new ≡ S.starts shelf.old))
-        (Rose (S.write_faults shelf.old) (S.write_faults shelf.new)) (S.files shelf.old) (S.files shelf.new) result }
+        (λ name. Rose (S.read_faults shelf.old name) (S.read_faults shelf.new name)) (HasStarted (S.starts shelf.old) (S.starts shelf.new)))
+        (StopsRecording design.now map.now script.now stalls.now trace.now (S.files shelf.old)
+        (HasStarted (S.starts shelf.old) (S.starts shelf.new))) (Rose (S.write_faults shelf.old) (S.write_faults shelf.new))
+        (IsKept (S.files shelf.old) (HasStarted (S.starts shelf.old) (S.starts shelf.new))) (S.files shelf.new) result }
     ensures counts { Later (S.read_faults shelf.old) (S.read_faults shelf.new) (S.write_faults shelf.old) (S.write_faults shelf.new) }
 {
     let planned = plan_recording(alloc, design, map, script, stalls, shelf)?;
@@ -176,10 +178,11 @@ fn recorded<S: Shelf>(
 ) -> Result<Answer, Ended>
     requires playable { IsPlayable planned.bench }
     requires room { planned.room ≡ empty (sizes_of planned.bench.device.map.channels) false planned.plan.capacity }
-    ensures done { IfOk result (λ a. RecordsRun (course_of planned.bench planned.plan) trace.now (S.files shelf.old) a.status
-        (text_of a.text) (S.files shelf.new)) }
+    ensures done { IfOk result (λ a. RecordsRun (course_of planned.bench planned.plan) trace.now (S.files shelf.old)
+        (HasStarted (S.starts shelf.old) (S.starts shelf.new)) a.status (text_of a.text) (S.files shelf.new)) }
     ensures stopped { IfErr result (IsStopped (IsCutShort (course_of planned.bench planned.plan) (S.files shelf.old) trace.now
-        (S.starts shelf.new ≡ S.starts shelf.old)) (Rose (S.write_faults shelf.old) (S.write_faults shelf.new)) (S.files shelf.old) (S.files shelf.new)) }
+        (HasStarted (S.starts shelf.old) (S.starts shelf.new))) (Rose (S.write_faults shelf.old) (S.write_faults shelf.new))
+        (IsKept (S.files shelf.old) (HasStarted (S.starts shelf.old) (S.starts shelf.new))) (S.files shelf.new)) }
     ensures counts { Later (S.read_faults shelf.old) (S.read_faults shelf.new) (S.write_faults shelf.old) (S.write_faults shelf.new) }
 {
     let line = Pad::new(alloc, LINE_BYTES)?;
@@ -198,10 +201,11 @@ fn recorded_with<S: Shelf>(
     requires room { planned.room ≡ empty (sizes_of planned.bench.device.map.channels) false planned.plan.capacity }
     requires empty { shown line ≡ [] }
     requires line { left line ≡ LINE_BYTES }
-    ensures done { IfOk result (λ a. RecordsRun (course_of planned.bench planned.plan) trace.now (S.files shelf.old) a.status
-        (text_of a.text) (S.files shelf.new)) }
+    ensures done { IfOk result (λ a. RecordsRun (course_of planned.bench planned.plan) trace.now (S.files shelf.old)
+        (HasStarted (S.starts shelf.old) (S.starts shelf.new)) a.status (text_of a.text) (S.files shelf.new)) }
     ensures stopped { IfErr result (IsStopped (IsCutShort (course_of planned.bench planned.plan) (S.files shelf.old) trace.now
-        (S.starts shelf.new ≡ S.starts shelf.old)) (Rose (S.write_faults shelf.old) (S.write_faults shelf.new)) (S.files shelf.old) (S.files shelf.new)) }
+        (HasStarted (S.starts shelf.old) (S.starts shelf.new))) (Rose (S.write_faults shelf.old) (S.write_faults shelf.new))
+        (IsKept (S.files shelf.old) (HasStarted (S.starts shelf.old) (S.starts shelf.new))) (S.files shelf.new)) }
     ensures counts { Later (S.read_faults shelf.old) (S.read_faults shelf.new) (S.write_faults shelf.old) (S.write_faults shelf.new) }
 {
     let Planned { bench, plan, room } = planned;
@@ -234,9 +238,9 @@ pub fn record_sim<S: Shelf>(
     requires fits { FitsChannels map.now.channels script.now }
     requires room { room ≡ empty (sizes_of map.now.channels) false plan.now.capacity }
     ensures ended { IfOk result (FileEnds (course design map.now (script_offer script.now) plan.now script.now.cycles)
-        (S.files shelf.old) trace.now (S.files shelf.new)) }
+        (S.files shelf.old) trace.now (HasStarted (S.starts shelf.old) (S.starts shelf.new)) (S.files shelf.new)) }
     ensures failed { IfErr result (FileFails (course design map.now (script_offer script.now) plan.now script.now.cycles)
-        (S.files shelf.old) trace.now (S.starts shelf.new ≡ S.starts shelf.old) (S.files shelf.new)) }
+        (S.files shelf.old) trace.now (HasStarted (S.starts shelf.old) (S.starts shelf.new)) (S.files shelf.new)) }
     ensures cause { IfErr result (FailsFor (S.write_faults shelf.old) (S.write_faults shelf.new)) }
     ensures counts { Later (S.read_faults shelf.old) (S.read_faults shelf.new) (S.write_faults shelf.old) (S.write_faults shelf.new) }
 {
@@ -261,9 +265,9 @@ fn record_block<B: Block + Drop, S: Shelf>(
     requires fits { FitsChannels map.now.channels script.now }
     requires room { room ≡ empty (sizes_of map.now.channels) false plan.now.capacity }
     ensures ended { IfOk result (FileEnds (course (B.design block) map.now (script_offer script.now) plan.now script.now.cycles)
-        (S.files shelf.old) trace.now (S.files shelf.new)) }
+        (S.files shelf.old) trace.now (HasStarted (S.starts shelf.old) (S.starts shelf.new)) (S.files shelf.new)) }
     ensures failed { IfErr result (FileFails (course (B.design block) map.now (script_offer script.now) plan.now script.now.cycles)
-        (S.files shelf.old) trace.now (S.starts shelf.new ≡ S.starts shelf.old) (S.files shelf.new)) }
+        (S.files shelf.old) trace.now (HasStarted (S.starts shelf.old) (S.starts shelf.new)) (S.files shelf.new)) }
     ensures cause { IfErr result (FailsFor (S.write_faults shelf.old) (S.write_faults shelf.new)) }
     ensures counts { Later (S.read_faults shelf.old) (S.read_faults shelf.new) (S.write_faults shelf.old) (S.write_faults shelf.new) }
 {
@@ -302,10 +306,11 @@ fn record_file<S: Shell, E: Env, F: Shelf>(
     requires some { 1 ≤ cycles }
     requires few { cycles ≤ MOST_CYCLES }
     ensures ended { IfOk result (λ outcome. (d : Design) (s : Values) (before : Option OneRow) → S.runs shell.old d s before
-        → FileEnds (course d map.now (E.offer (E.plan env.old)) plan.now cycles) (F.files shelf.old) trace.now (F.files shelf.new) outcome) }
+        → FileEnds (course d map.now (E.offer (E.plan env.old)) plan.now cycles) (F.files shelf.old) trace.now
+        (HasStarted (F.starts shelf.old) (F.starts shelf.new)) (F.files shelf.new) outcome) }
     ensures failed { IfErr result (λ e. (d : Design) (s : Values) (before : Option OneRow) → S.runs shell.old d s before → IsLawful d
         → FileFails (course d map.now (E.offer (E.plan env.old)) plan.now cycles) (F.files shelf.old) trace.now
-        (F.starts shelf.new ≡ F.starts shelf.old) (F.files shelf.new) e) }
+        (HasStarted (F.starts shelf.old) (F.starts shelf.new)) (F.files shelf.new) e) }
     ensures cause { IfErr result (FailsFor (F.write_faults shelf.old) (F.write_faults shelf.new)) }
     ensures counts { Later (F.read_faults shelf.old) (F.read_faults shelf.new) (F.write_faults shelf.old) (F.write_faults shelf.new) }
 {

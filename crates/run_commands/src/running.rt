@@ -45,6 +45,7 @@ pub fn run<S: Shelf>(
     ensures answered { IsAnswered (Runs design.now map.now script.now (S.files shelf.old)
         (λ name. Rose (S.read_faults shelf.old name) (S.read_faults shelf.new name))) result }
     ensures files { S.files shelf.new ≡ S.files shelf.old }
+    ensures starts { S.starts shelf.new ≡ S.starts shelf.old }
     ensures counts { Later (S.read_faults shelf.old) (S.read_faults shelf.new) (S.write_faults shelf.old) (S.write_faults shelf.new) }
 {
     let texts = read_texts(alloc, design, map, script, shelf)?;

@@ -1,5 +1,5 @@
 -- From a recording in memory, and a replay of its trace, to the answer of `sample`.
-use Rattle.std.proofs.Common.{◌≡◌, ◌≤◌, ℕ, List, Option, None, Some, Result, Ok, Err, cond, inr, refl, sym, ap, subst, ◌∙◌}
+use Rattle.std.proofs.Common.{◌≡◌, ◌≤◌, ℕ, Bool, List, Option, None, Some, Result, Ok, Err, cond, inr, refl, sym, ap, subst, ◌∙◌}
 use Rattle.std.specs.Prelude.{IfOk, IsSome, IsSomeAnd, codes}
 use Rattle.std.specs.Cmp.Lexicographic.{nat_list_cmp_total}
 use Rattle.std.specs.FinMap.{get, insert, get-insert}
@@ -52,10 +52,10 @@ pub some-at : {A : Type 0} (P : A → Type 0) (o : Option A) (x : A) → o ≡ S
 some-at P o x same is = subst (λ (k : Option _). IsSomeAnd k P) same is
 
 -- ---- the recording
-pub whole-traced : (w : Course) (m : Files) (shelf : MemShelf) (packets : ℕ)
-    → FileEnds w (Some m) (codes "trace") (Some (files_of (entries shelf))) (outcomes.Whole packets) → HasTrace (IsTraceOf w) shelf
-whole-traced w m shelf packets (rows, leaves, is) =
-    has-held (IsTraceOf w) shelf m (encode (trace_of w.bound.channels rows)) leaves.1 (rows, leaves.0, refl)
+pub whole-traced : (w : Course) (m : Files) (shelf : MemShelf) (P : Bool → Type 0) (packets : ℕ)
+    → FileEnds w (Some m) (codes "trace") P (Some (files_of (entries shelf))) (outcomes.Whole packets) → HasTrace (IsTraceOf w) shelf
+whole-traced w m shelf P packets (rows, (run, held, started), is) =
+    has-held (IsTraceOf w) shelf m (encode (trace_of w.bound.channels rows)) held (rows, run, refl)
 
 -- ---- of four texts
 module _ (design map script stalls : List ℕ) (b : Bench) (plan : Stalls) (bench : IsBench design map script b)

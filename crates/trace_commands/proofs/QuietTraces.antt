@@ -1,5 +1,5 @@
 -- The commands on traces: no failed write among their answers, and the same where no read failed.
-use Rattle.std.proofs.Common.{◌≡◌, ℕ, List, Option, inl, inr}
+use Rattle.std.proofs.Common.{◌≡◌, ℕ, Bool, List, Option, inl, inr}
 use Rattle.trace_code.specs.trace_model.declared.trace.Trace.{Trace}
 use Rattle.trace_code.specs.Encoding.{Encodes}
 use Rattle.vidi_bench.specs.vidi_io.Shelf.{Files}
@@ -42,11 +42,11 @@ mute-compares trace other files F = mute-reading trace_limit words.Trace trace f
     (λ second. mute-decoding words.Trace first (λ t. Decoding words.Other second (Compared t))
     (λ t. mute-decoding words.Other second (Compared t) (mute-compared t))))
 
-pub mute-saves : (trace out : List ℕ) (files : Option Files) (F : List ℕ → Type 0) (x : List ℕ) (left : Option Files)
-    → Saves trace out files F WriteFault x left → ⊥
-mute-saves trace out files F x left (inl (unsaved, same)) =
+pub mute-saves : (trace out : List ℕ) (files : Option Files) (F : List ℕ → Type 0) (P : Bool → Type 0) (x : List ℕ) (left : Option Files)
+    → Saves trace out files F P WriteFault x left → ⊥
+mute-saves trace out files F P x left (inl (unsaved, same)) =
     mute-reading trace_limit words.Trace trace files F IsHeaderless (λ file y (none, s). mute-refusal words.Trace (BadTrace 0) y s) x unsaved
-mute-saves trace out files F x left (inr (t, whole, s, same)) = let e : WriteFault ≡ Done = s.0 in cc
+mute-saves trace out files F P x left (inr (t, whole, s, same)) = let e : WriteFault ≡ Done = s.0 in cc
 
 -- ---- where no read failed
 pub quiet-dumps : (trace : List ℕ) (files : Option Files) (F : List ℕ → Type 0) → ((name : List ℕ) → ¬ F name)
@@ -59,8 +59,8 @@ quiet-compares trace other files F quiet = quiet-reading trace_limit words.Trace
     (λ first. quiet-reading trace_limit words.Other other files F (ComparedFiles first) (ComparedFiles first) (quiet other)
     (λ second a x rest. rest))
 
-pub quiet-saves : (trace out : List ℕ) (files : Option Files) (F : List ℕ → Type 0) (a : Status) (x : List ℕ) (left : Option Files)
-    → ((name : List ℕ) → ¬ F name) → Saves trace out files F a x left → Saves trace out files (λ _. ⊥) a x left
-quiet-saves trace out files F a x left quiet (inl (unsaved, same)) =
+pub quiet-saves : (trace out : List ℕ) (files : Option Files) (F : List ℕ → Type 0) (P : Bool → Type 0) (a : Status) (x : List ℕ)
+    (left : Option Files) → ((name : List ℕ) → ¬ F name) → Saves trace out files F P a x left → Saves trace out files (λ _. ⊥) P a x left
+quiet-saves trace out files F P a x left quiet (inl (unsaved, same)) =
     inl (quiet-reading trace_limit words.Trace trace files F IsHeaderless IsHeaderless (quiet trace) (λ file b y rest. rest) a x unsaved, same)
-quiet-saves trace out files F a x left quiet (inr saved) = inr saved
+quiet-saves trace out files F P a x left quiet (inr saved) = inr saved

@@ -1,13 +1,13 @@
 -- What the commands on traces owe: each step of them in its order.
-use Rattle.std.specs.Prelude.{◌≡◌, ◌≢◌, ℕ, ◌⊎◌, List, [], Option, Ok, length, take, slice_get}
+use Rattle.std.specs.Prelude.{◌≡◌, ◌≢◌, ℕ, ◌⊎◌, Bool, List, [], Option, Ok, length, take, slice_get}
 use Rattle.trace_code.specs.trace_model.declared.channel.Channel.{Channel}
 use Rattle.trace_code.specs.trace_model.declared.trace.Trace.{Trace}
 use Rattle.trace_code.specs.Decoding.{IsFaultAt, HasNoHeader}
 use Rattle.trace_code.specs.Encoding.{Encodes, encode}
 use Rattle.trace_code.specs.Salvage.{Salvages}
 use Rattle.vidi_bench.specs.trace_compare.Findings.{findings}
-use Rattle.vidi_bench.specs.vidi_io.Shelf.{Files, holding}
-use Rattle.vidi_bench.specs.vidi_io.Writing.{IsCutOff}
+use Rattle.vidi_bench.specs.vidi_io.Shelf.{Files}
+use Rattle.vidi_bench.specs.vidi_io.Writing.{IsCutOff, IsKept, IsWritten}
 use Rattle.vidi_bench.specs.report_text.declared.reason.Word.{Word}
 use Rattle.vidi_bench.specs.report_text.declared.reason.Word.TheVariants as words
 use Rattle.vidi_bench.specs.report_text.declared.reason.Reason.TheVariants.{BadTrace, OtherChannels}
@@ -72,12 +72,12 @@ IsUnsaved trace files ReadFailed = Reading trace_limit words.Trace trace files R
 abbrev pub IsWhole : List ℕ → Option Files → Trace → Type 0
 IsWhole trace files t = (file : List ℕ) × IsRead trace_limit trace files file × Salvages file (Ok t)
 
--- what is left of the files: OUT is not started, or holds the encoding of what is whole of the trace
-abbrev pub Saves : List ℕ → List ℕ → Option Files → (List ℕ → Type 0) → Status → List ℕ → Option Files → Type 0
-Saves trace out files ReadFailed status text left = (IsUnsaved trace files ReadFailed status text × (left ≡ files))
+-- what is left of the files: OUT is not started, or was started once and holds the encoding of what is whole of the trace
+abbrev pub Saves : List ℕ → List ℕ → Option Files → (List ℕ → Type 0) → (Bool → Type 0) → Status → List ℕ → Option Files → Type 0
+Saves trace out files ReadFailed Started status text left = (IsUnsaved trace files ReadFailed status text × IsKept files Started left)
     ⊎ ((t : Trace) × IsWhole trace files t × IsSaid Done (salvaged_line (length t.packets)) status text
-    × (left ≡ holding files out (encode t)))
+    × IsWritten files out (encode t) Started left)
 
 -- writing OUT was cut off
-abbrev pub StopsSaving : List ℕ → List ℕ → Option Files → Type 0 → Option Files → Type 0
-StopsSaving trace out files Unstarted left = (t : Trace) × IsWhole trace files t × IsCutOff files out (encode t) Unstarted left
+abbrev pub StopsSaving : List ℕ → List ℕ → Option Files → (Bool → Type 0) → Option Files → Type 0
+StopsSaving trace out files Started left = (t : Trace) × IsWhole trace files t × IsCutOff files out (encode t) Started left

@@ -30,6 +30,7 @@ pub fn compare<S: Shelf>(
     ensures answered { IsAnswered (Compares trace.now other.now (S.files shelf.old)
         (λ name. Rose (S.read_faults shelf.old name) (S.read_faults shelf.new name))) result }
     ensures files { S.files shelf.new ≡ S.files shelf.old }
+    ensures starts { S.starts shelf.new ≡ S.starts shelf.old }
     ensures counts { Later (S.read_faults shelf.old) (S.read_faults shelf.new) (S.write_faults shelf.old) (S.write_faults shelf.new) }
 {
     let first = read_file(alloc, Word::Trace, trace, TRACE_LIMIT, shelf)?;

@@ -23,6 +23,7 @@ pub fn dump<S: Shelf>(alloc: Global, trace: &str, shelf: &mut S) -> Result<Answe
     ensures answered { IsAnswered (Dumps trace.now (S.files shelf.old)
         (λ name. Rose (S.read_faults shelf.old name) (S.read_faults shelf.new name))) result }
     ensures files { S.files shelf.new ≡ S.files shelf.old }
+    ensures starts { S.starts shelf.new ≡ S.starts shelf.old }
     ensures counts { Later (S.read_faults shelf.old) (S.read_faults shelf.new) (S.write_faults shelf.old) (S.write_faults shelf.new) }
 {
     let file = read_file(alloc, Word::Trace, trace, TRACE_LIMIT, shelf)?;

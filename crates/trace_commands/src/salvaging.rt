@@ -1,11 +1,11 @@
 //! The command `salvage`.
 
-ghost use Rattle.std.specs.Prelude.{◌≡◌, ◌<◌, ◌^◌, ◌++◌, Ok, IfOk, IfErr, take};
+ghost use Rattle.std.specs.Prelude.{◌≡◌, ◌<◌, ◌^◌, ◌++◌, true, Ok, IfOk, IfErr, take};
 ghost use Rattle.trace_code.specs.Encoding.{end_mark};
 ghost use Rattle.trace_code.specs.Salvage.{SalvagesFront};
 ghost use Rattle.vidi_bench.specs.vidi_io.Cause.{Rose};
-ghost use Rattle.vidi_bench.specs.vidi_io.Shelf.{Later, holding};
-ghost use Rattle.vidi_bench.specs.vidi_io.Writing.{IsCutOff};
+ghost use Rattle.vidi_bench.specs.vidi_io.Shelf.{HasStarted, Later, holding};
+ghost use Rattle.vidi_bench.specs.vidi_io.Writing.{IsCutOff, IsKept};
 ghost use Rattle.vidi_bench.specs.AnswerText.{text_of};
 ghost use Rattle.vidi_bench.specs.Ended.{EndsWith, IsStopped, Owes};
 ghost use Rattle.trace_commands.specs.Said as said;
@@ -27,9 +27,10 @@ pub fn salvage<S: Shelf>(
     shelf: &mut S,
 ) -> Result<Answer, Ended>
     ensures owed { Owes (Saves trace.now out.now (S.files shelf.old)
-        (λ name. Rose (S.read_faults shelf.old name) (S.read_faults shelf.new name)))
-        (StopsSaving trace.now out.now (S.files shelf.old) (S.starts shelf.new ≡ S.starts shelf.old))
-        (Rose (S.write_faults shelf.old) (S.write_faults shelf.new)) (S.files shelf.old) (S.files shelf.new) result }
+        (λ name. Rose (S.read_faults shelf.old name) (S.read_faults shelf.new name)) (HasStarted (S.starts shelf.old) (S.starts shelf.new)))
+        (StopsSaving trace.now out.now (S.files shelf.old) (HasStarted (S.starts shelf.old) (S.starts shelf.new)))
+        (Rose (S.write_faults shelf.old) (S.write_faults shelf.new))
+        (IsKept (S.files shelf.old) (HasStarted (S.starts shelf.old) (S.starts shelf.new))) (S.files shelf.new) result }
     ensures counts { Later (S.read_faults shelf.old) (S.read_faults shelf.new) (S.write_faults shelf.old) (S.write_faults shelf.new) }
 {
     let file = read_file(alloc, Word::Trace, trace, TRACE_LIMIT, shelf)?;
@@ -64,8 +65,10 @@ fn saved<S: Shelf>(
     ensures done { IfOk result (λ a. IsSaid Status.Done (said.salvaged_line whole.packets) a.status (text_of a.text)) }
     ensures files { IfOk result (λ a. S.files shelf.new
         ≡ holding (S.files shelf.old) out.now (take whole.len bytes ++ end_mark whole.packets)) }
+    ensures started { IfOk result (λ a. HasStarted (S.starts shelf.old) (S.starts shelf.new) true) }
     ensures stopped { IfErr result (IsStopped (IsCutOff (S.files shelf.old) out.now (take whole.len bytes ++ end_mark whole.packets)
-        (S.starts shelf.new ≡ S.starts shelf.old)) (Rose (S.write_faults shelf.old) (S.write_faults shelf.new)) (S.files shelf.old) (S.files shelf.new)) }
+        (HasStarted (S.starts shelf.old) (S.starts shelf.new))) (Rose (S.write_faults shelf.old) (S.write_faults shelf.new))
+        (IsKept (S.files shelf.old) (HasStarted (S.starts shelf.old) (S.starts shelf.new))) (S.files shelf.new)) }
     ensures counts { Later (S.read_faults shelf.old) (S.read_faults shelf.new) (S.write_faults shelf.old) (S.write_faults shelf.new) }
 {
     let front = ended_front(bytes, whole)?;

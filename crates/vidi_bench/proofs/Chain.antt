@@ -45,36 +45,37 @@ pub answered-as : (E G : Ending) (e : Ended) (r : Result Answer Ended) → IsErr
 answered-as E G e (Ok a) made on is = absurd made
 answered-as E G e (Err d) made on is = subst (λ (k : Ended). EndsWith G k) (sym made) (ends-as E G e on is)
 
--- ---- what a command owes, all files left as they are
+-- ---- what a command owes, all left as it was
 ended-owed : (E : Ending) (Earned : Status → List ℕ → Option Files → Type 0) (CutOff : Option Files → Type 0) (W : Type 0)
-    (files left : Option Files) (e : Ended) → left ≡ files → ((a : Status) (x : List ℕ) → E a x → Earned a x left) → EndsWith E e
-    → Owes Earned CutOff W files left (Err e)
-ended-owed E Earned CutOff W files left (Refused a) same on is = on a.status (text_of a.text) is
-ended-owed E Earned CutOff W files left WriteFault same on is = absurd is
-ended-owed E Earned CutOff W files left Memory same on is = same
+    (Kept : Option Files → Type 0) (left : Option Files) (e : Ended) → Kept left
+    → ((a : Status) (x : List ℕ) → E a x → Earned a x left) → EndsWith E e → Owes Earned CutOff W Kept left (Err e)
+ended-owed E Earned CutOff W Kept left (Refused a) same on is = on a.status (text_of a.text) is
+ended-owed E Earned CutOff W Kept left WriteFault same on is = absurd is
+ended-owed E Earned CutOff W Kept left Memory same on is = same
 
 -- by its answer
 pub owed : (E : Ending) (Earned : Status → List ℕ → Option Files → Type 0) (CutOff : Option Files → Type 0) (W : Type 0)
-    (files left : Option Files) (r : Result Answer Ended) → left ≡ files → ((a : Status) (x : List ℕ) → E a x → Earned a x left)
-    → IsAnswered E r → Owes Earned CutOff W files left r
-owed E Earned CutOff W files left (Ok a) same on is = on a.status (text_of a.text) is
-owed E Earned CutOff W files left (Err e) same on is = ended-owed E Earned CutOff W files left e same on is
+    (Kept : Option Files → Type 0) (left : Option Files) (r : Result Answer Ended) → Kept left
+    → ((a : Status) (x : List ℕ) → E a x → Earned a x left) → IsAnswered E r → Owes Earned CutOff W Kept left r
+owed E Earned CutOff W Kept left (Ok a) same on is = on a.status (text_of a.text) is
+owed E Earned CutOff W Kept left (Err e) same on is = ended-owed E Earned CutOff W Kept left e same on is
 
 -- by what ends it
 pub passed-owed : (E : Ending) (Earned : Status → List ℕ → Option Files → Type 0) (CutOff : Option Files → Type 0) (W : Type 0)
-    (files left : Option Files) (e : Ended) (r : Result Answer Ended) → IsErrAnd r (λ made. made ≡ e) → left ≡ files
-    → ((a : Status) (x : List ℕ) → E a x → Earned a x left) → EndsWith E e → Owes Earned CutOff W files left r
-passed-owed E Earned CutOff W files left e r made same on is =
-    owed E Earned CutOff W files left r same on (answered-as E E e r made (λ a x it. it) is)
+    (Kept : Option Files → Type 0) (left : Option Files) (e : Ended) (r : Result Answer Ended) → IsErrAnd r (λ made. made ≡ e) → Kept left
+    → ((a : Status) (x : List ℕ) → E a x → Earned a x left) → EndsWith E e → Owes Earned CutOff W Kept left r
+passed-owed E Earned CutOff W Kept left e r made same on is =
+    owed E Earned CutOff W Kept left r same on (answered-as E E e r made (λ a x it. it) is)
 
 -- of what is owed to more
 pub owed-as : (Earned Others : Status → List ℕ → Option Files → Type 0) (CutOff Cut : Option Files → Type 0) (W : Type 0)
-    (files left : Option Files) (r : Result Answer Ended) → ((a : Status) (x : List ℕ) → Earned a x left → Others a x left)
-    → (CutOff left → Cut left) → Owes Earned CutOff W files left r → Owes Others Cut W files left r
-owed-as Earned Others CutOff Cut W files left (Ok a) on cut is = on a.status (text_of a.text) is
-owed-as Earned Others CutOff Cut W files left (Err (Refused a)) on cut is = on a.status (text_of a.text) is
-owed-as Earned Others CutOff Cut W files left (Err WriteFault) on cut (failed, is) = (failed, cut is)
-owed-as Earned Others CutOff Cut W files left (Err Memory) on cut is = is
+    (Kept : Option Files → Type 0) (left : Option Files) (r : Result Answer Ended)
+    → ((a : Status) (x : List ℕ) → Earned a x left → Others a x left) → (CutOff left → Cut left) → Owes Earned CutOff W Kept left r
+    → Owes Others Cut W Kept left r
+owed-as Earned Others CutOff Cut W Kept left (Ok a) on cut is = on a.status (text_of a.text) is
+owed-as Earned Others CutOff Cut W Kept left (Err (Refused a)) on cut is = on a.status (text_of a.text) is
+owed-as Earned Others CutOff Cut W Kept left (Err WriteFault) on cut (failed, is) = (failed, cut is)
+owed-as Earned Others CutOff Cut W Kept left (Err Memory) on cut is = is
 
 -- ---- files that are read one after another
 -- a count that rose since a later place rose since an earlier one

@@ -1,5 +1,5 @@
 -- What ends a command before its answer, and what a command gives.
-use Rattle.std.specs.Prelude.{◌≡◌, ℕ, List, Option, Result, Ok, Err}
+use Rattle.std.specs.Prelude.{ℕ, List, Option, Result, Ok, Err}
 use Rattle.report_text.specs.vidi_io.Shelf.{Files}
 use Rattle.vidi_bench.specs.declared.answer.Answer.{Answer}
 use Rattle.vidi_bench.specs.declared.answer.Ended.{Ended}
@@ -14,21 +14,22 @@ EndsWith Ends (Refused answer) = Ends answer.status (text_of answer.text)
 EndsWith Ends WriteFault = ⊥
 EndsWith Ends Memory = Unit {0}
 
--- where a file is written: a write failed, which leaves it cut off, or memory was wanting, which leaves all files
-abbrev pub IsStopped : (Option Files → Type 0) → Type 0 → Option Files → Option Files → Ended → Type 0
-IsStopped CutOff WriteFailed files left (Refused answer) = ⊥
-IsStopped CutOff WriteFailed files left WriteFault = WriteFailed × CutOff left
-IsStopped CutOff WriteFailed files left Memory = left ≡ files
+-- where a file is written: a write failed, which leaves it cut off, or memory was wanting, which leaves all as it was
+abbrev pub IsStopped : (Option Files → Type 0) → Type 0 → (Option Files → Type 0) → Option Files → Ended → Type 0
+IsStopped CutOff WriteFailed Kept left (Refused answer) = ⊥
+IsStopped CutOff WriteFailed Kept left WriteFault = WriteFailed × CutOff left
+IsStopped CutOff WriteFailed Kept left Memory = Kept left
 
 -- what a command gives that writes no file
 abbrev pub IsAnswered : Ending → Result Answer Ended → Type 0
 IsAnswered Ends (Ok answer) = Ends answer.status (text_of answer.text)
 IsAnswered Ends (Err ended) = EndsWith Ends ended
 
--- what a command gives: an answer that is earned with these files left, or why it says nothing of its own
-abbrev pub Owes : (Status → List ℕ → Option Files → Type 0) → (Option Files → Type 0) → Type 0 → Option Files → Option Files
+-- What a command gives: an answer that is earned with these files left, or why it says nothing of its own. Where memory was wanting all is
+-- as it was.
+abbrev pub Owes : (Status → List ℕ → Option Files → Type 0) → (Option Files → Type 0) → Type 0 → (Option Files → Type 0) → Option Files
     → Result Answer Ended → Type 0
-Owes Earned CutOff WriteFailed files left (Ok answer) = Earned answer.status (text_of answer.text) left
-Owes Earned CutOff WriteFailed files left (Err (Refused answer)) = Earned answer.status (text_of answer.text) left
-Owes Earned CutOff WriteFailed files left (Err WriteFault) = WriteFailed × CutOff left
-Owes Earned CutOff WriteFailed files left (Err Memory) = left ≡ files
+Owes Earned CutOff WriteFailed Kept left (Ok answer) = Earned answer.status (text_of answer.text) left
+Owes Earned CutOff WriteFailed Kept left (Err (Refused answer)) = Earned answer.status (text_of answer.text) left
+Owes Earned CutOff WriteFailed Kept left (Err WriteFault) = WriteFailed × CutOff left
+Owes Earned CutOff WriteFailed Kept left (Err Memory) = Kept left

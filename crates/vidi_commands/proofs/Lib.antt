@@ -1,5 +1,6 @@
 pub mod WordLists
 pub mod Saying
+pub mod Starting
 pub use Rattle.sample_command.proofs.bench_run_lemmas as bench_run_lemmas
 pub use Rattle.wrap_command.proofs.env_script_lemmas as env_script_lemmas
 pub use Rattle.wrap_command.proofs.net_order_lemmas as net_order_lemmas

@@ -1,10 +1,11 @@
 -- What a call of `vidi` owes: each answer with its cause and its text.
-use Rattle.std.specs.Prelude.{◌≡◌, ℕ, ◌⊎◌, List, Option}
+use Rattle.std.specs.Prelude.{◌≡◌, ℕ, ◌⊎◌, Bool, List, Option}
 use Rattle.std.specs.Io.KnownBytes.{append_known}
 use Rattle.wrap_command.specs.vidi_io.Shelf.{Files}
 use Rattle.wrap_command.specs.vidi_io.Sink.{AppendsSome}
+use Rattle.wrap_command.specs.vidi_io.Writing.{IsKept}
 use Rattle.wrap_command.specs.vidi_bench.declared.status.Status.{Status}
-use Rattle.wrap_command.specs.vidi_bench.declared.status.Status.TheVariants.{Usage, WriteFault, Memory}
+use Rattle.wrap_command.specs.vidi_bench.declared.status.Status.TheVariants.{Usage, ReadFault, WriteFault, Refused, Memory}
 use Rattle.vidi_commands.specs.Command.{Command, Dump, Check, Run, Record, Replay, Compare, Salvage, Wrap, Sample, IsGiven}
 use Rattle.wrap_command.specs.vidi_bench.Steps.{IsSaid}
 use Rattle.sample_command.specs.trace_commands.Traces.{Dumps, Compares, Saves, StopsSaving}
@@ -16,38 +17,50 @@ use Rattle.wrap_command.specs.Wraps.{Wraps, StopsWrapping}
 use Rattle.sample_command.specs.Samples.{Samples}
 use Rattle.vidi_commands.specs.Said.{usage_line, memory_line}
 
--- what a command owes: its answer, its text, and the files that are left
-abbrev pub Does : Command → Option Files → (List ℕ → Type 0) → Status → List ℕ → Option Files → Type 0
-Does (Dump trace) files ReadFailed status text left = Dumps trace files ReadFailed status text × (left ≡ files)
-Does (Check design top) files ReadFailed status text left = Checks design top files ReadFailed status text × (left ≡ files)
-Does (Run design map script) files ReadFailed status text left = Runs design map script files ReadFailed status text × (left ≡ files)
-Does (Record design map script stalls trace) files ReadFailed status text left =
-    Records design map script stalls trace files ReadFailed status text left
-Does (Replay design map trace cycles out) files ReadFailed status text left =
-    Replays design map trace cycles out files ReadFailed status text left
-Does (Compare trace other) files ReadFailed status text left = Compares trace other files ReadFailed status text × (left ≡ files)
-Does (Salvage trace out) files ReadFailed status text left = Saves trace out files ReadFailed status text left
-Does (Wrap design map out) files ReadFailed status text left = Wraps design map out files ReadFailed status text left
-Does (Sample number) files ReadFailed status text left = Samples number status text × (left ≡ files)
+-- what a command owes: its answer, its text, the files that are left, and whether a file was started
+abbrev pub Does : Command → Option Files → (List ℕ → Type 0) → (Bool → Type 0) → Status → List ℕ → Option Files → Type 0
+Does (Dump trace) files ReadFailed Started status text left = Dumps trace files ReadFailed status text × IsKept files Started left
+Does (Check design top) files ReadFailed Started status text left =
+    Checks design top files ReadFailed status text × IsKept files Started left
+Does (Run design map script) files ReadFailed Started status text left =
+    Runs design map script files ReadFailed status text × IsKept files Started left
+Does (Record design map script stalls trace) files ReadFailed Started status text left =
+    Records design map script stalls trace files ReadFailed Started status text left
+Does (Replay design map trace cycles out) files ReadFailed Started status text left =
+    Replays design map trace cycles out files ReadFailed Started status text left
+Does (Compare trace other) files ReadFailed Started status text left =
+    Compares trace other files ReadFailed status text × IsKept files Started left
+Does (Salvage trace out) files ReadFailed Started status text left = Saves trace out files ReadFailed Started status text left
+Does (Wrap design map out) files ReadFailed Started status text left = Wraps design map out files ReadFailed Started status text left
+Does (Sample number) files ReadFailed Started status text left = Samples number status text × IsKept files Started left
 
--- An answer is earned by these words, with this text and these files left: `Usage` where they give no command, else what the command
--- owes. Want of memory is free.
-abbrev pub Earns : List (List ℕ) → Option Files → (List ℕ → Type 0) → Status → List ℕ → Option Files → Type 0
-Earns words files ReadFailed status text left = (((c : Command) → ¬ IsGiven words c) × IsSaid Usage usage_line status text × (left ≡ files))
-    ⊎ (IsSaid Memory memory_line status text × (left ≡ files))
-    ⊎ ((c : Command) × IsGiven words c × Does c files ReadFailed status text left)
+-- An answer is earned by these words, with this text, these files left and these starts: `Usage` where they give no command, else what
+-- the command owes. Want of memory is free, but that it leaves the files and starts none.
+abbrev pub Earns : List (List ℕ) → Option Files → (List ℕ → Type 0) → (Bool → Type 0) → Status → List ℕ → Option Files → Type 0
+Earns words files ReadFailed Started status text left =
+    (((c : Command) → ¬ IsGiven words c) × IsSaid Usage usage_line status text × IsKept files Started left)
+    ⊎ (IsSaid Memory memory_line status text × IsKept files Started left)
+    ⊎ ((c : Command) × IsGiven words c × Does c files ReadFailed Started status text left)
 
--- A write of a command's file failed, which leaves these files: the command's file as at entry only where no start succeeded
--- (`Unstarted`), else a front of what it defines.
-abbrev pub StopsIn : Command → Option Files → Type 0 → Option Files → Type 0
-StopsIn (Salvage trace out) files Unstarted left = StopsSaving trace out files Unstarted left
-StopsIn (Record design map script stalls trace) files Unstarted left = StopsRecording design map script stalls trace files Unstarted left
-StopsIn (Replay design map trace cycles out) files Unstarted left = StopsReplaying design map trace cycles out files Unstarted left
-StopsIn (Wrap design map out) files Unstarted left = StopsWrapping design map out files Unstarted left
-StopsIn _ files Unstarted left = ⊥
+-- A write of a command's file failed, which leaves these files: no start succeeded, and the command's file is as at entry or empty; or it
+-- was started exactly once, and is a front of what the command defines.
+abbrev pub StopsIn : Command → Option Files → (Bool → Type 0) → Option Files → Type 0
+StopsIn (Salvage trace out) files Started left = StopsSaving trace out files Started left
+StopsIn (Record design map script stalls trace) files Started left = StopsRecording design map script stalls trace files Started left
+StopsIn (Replay design map trace cycles out) files Started left = StopsReplaying design map trace cycles out files Started left
+StopsIn (Wrap design map out) files Started left = StopsWrapping design map out files Started left
+StopsIn _ files Started left = ⊥
 
-abbrev pub Stops : List (List ℕ) → Option Files → Type 0 → Option Files → Type 0
-Stops words files Unstarted left = (c : Command) × IsGiven words c × StopsIn c files Unstarted left
+abbrev pub Stops : List (List ℕ) → Option Files → (Bool → Type 0) → Option Files → Type 0
+Stops words files Started left = (c : Command) × IsGiven words c × StopsIn c files Started left
+
+-- the answers before which no file is started
+abbrev pub StartsNone : Status → Type 0
+StartsNone Usage = Unit {0}
+StartsNone (ReadFault word) = Unit {0}
+StartsNone (Refused word reason) = Unit {0}
+StartsNone Memory = Unit {0}
+StartsNone status = ⊥
 
 -- a front of the text of an answer that was earned was said
 abbrev pub IsBroken : (Status → List ℕ → Option Files → Type 0) → Option (List ℕ) → Option (List ℕ) → Option Files → Type 0

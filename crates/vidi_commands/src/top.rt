@@ -1,10 +1,11 @@
 //! The one public call.
 
-ghost use Rattle.std.specs.Prelude.{◌≡◌, ℕ, ◌≤◌, List};
+ghost use Rattle.std.specs.Prelude.{◌≡◌, ℕ, ◌≤◌, Bool, List};
 ghost use Rattle.wrap_command.specs.vidi_io.Cause.{Rose};
-ghost use Rattle.wrap_command.specs.vidi_io.Shelf.{Later};
+ghost use Rattle.wrap_command.specs.vidi_io.Shelf.{HasStarted, Later};
 ghost use Rattle.wrap_command.specs.vidi_io.Sink.{Frame};
-ghost use Rattle.vidi_commands.specs.Answer.{Answers, Earns, Says, Stops};
+ghost use Rattle.wrap_command.specs.vidi_io.Writing.{IsKept};
+ghost use Rattle.vidi_commands.specs.Answer.{Answers, Earns, Says, StartsNone, Stops};
 ghost use Rattle.wrap_command.specs.vidi_bench.AnswerText.{text_of};
 ghost use Rattle.wrap_command.specs.vidi_bench.Ended.{Owes};
 ghost use Rattle.vidi_commands.specs.Said as said;
@@ -37,11 +38,14 @@ use wrap_command::wrap;
 /// what the command owes for the files that the shelf tells, with the files that are left. Reads and writes that
 /// fail are answered only where a count of faults rose: `WriteFault` is a failed push to `out`, with a front of the
 /// text said, or a failed write of the shelf, with a file's writing stopped. Want of memory alone is free.
+/// At most one file is started, and that once, so nothing that was written to it is taken back; `Usage`,
+/// `ReadFault`, `Refused` and `Memory` start none.
 pub fn vidi<S: Shelf, O: Sink>(alloc: Global, words: &Words, shelf: &mut S, out: &mut O) -> Status
     // Each answer with its cause, and what was said.
     ensures answers { Answers
-        (Earns words.now (S.files shelf.old) (λ name. Rose (S.read_faults shelf.old name) (S.read_faults shelf.new name)))
-        (Stops words.now (S.files shelf.old) (S.starts shelf.new ≡ S.starts shelf.old))
+        (Earns words.now (S.files shelf.old) (λ name. Rose (S.read_faults shelf.old name) (S.read_faults shelf.new name))
+        (HasStarted (S.starts shelf.old) (S.starts shelf.new)))
+        (Stops words.now (S.files shelf.old) (HasStarted (S.starts shelf.old) (S.starts shelf.new)))
         (Rose (S.write_faults shelf.old) (S.write_faults shelf.new)) (Rose (O.faults out.old) (O.faults out.new))
         (O.told out.old) (O.told out.new) (S.files shelf.new) result }
 
@@ -49,8 +53,12 @@ pub fn vidi<S: Shelf, O: Sink>(alloc: Global, words: &Words, shelf: &mut S, out:
     ensures complete { ((name : List ℕ) → ¬ Rose (S.read_faults shelf.old name) (S.read_faults shelf.new name))
         → ¬ Rose (S.write_faults shelf.old) (S.write_faults shelf.new)
         → ¬ Rose (O.faults out.old) (O.faults out.new)
-        → Answers (Earns words.now (S.files shelf.old) (λ name. ⊥)) (λ left. ⊥) ⊥ ⊥ (O.told out.old) (O.told out.new)
-        (S.files shelf.new) result }
+        → Answers (Earns words.now (S.files shelf.old) (λ name. ⊥) (HasStarted (S.starts shelf.old) (S.starts shelf.new))) (λ left. ⊥) ⊥ ⊥
+        (O.told out.old) (O.told out.new) (S.files shelf.new) result }
+
+    // At most one file was started, and that once: none before an answer that refuses.
+    ensures starts { (once : Bool) × HasStarted (S.starts shelf.old) (S.starts shelf.new) once }
+    ensures unstarted { StartsNone result → S.starts shelf.new ≡ S.starts shelf.old }
 
     // What every answer leaves.
     ensures counts { Later (S.read_faults shelf.old) (S.read_faults shelf.new) (S.write_faults shelf.old) (S.write_faults shelf.new) }
@@ -69,8 +77,10 @@ pub fn vidi<S: Shelf, O: Sink>(alloc: Global, words: &Words, shelf: &mut S, out:
 /// What these words are answered, before anything is said.
 fn answer_to<S: Shelf>(alloc: Global, words: &Words, shelf: &mut S) -> Result<Answer, Ended>
     ensures owed { Owes (Earns words.now (S.files shelf.old)
-        (λ name. Rose (S.read_faults shelf.old name) (S.read_faults shelf.new name)))
-        (Stops words.now (S.files shelf.old) (S.starts shelf.new ≡ S.starts shelf.old)) (Rose (S.write_faults shelf.old) (S.write_faults shelf.new)) (S.files shelf.old) (S.files shelf.new) result }
+        (λ name. Rose (S.read_faults shelf.old name) (S.read_faults shelf.new name)) (HasStarted (S.starts shelf.old) (S.starts shelf.new)))
+        (Stops words.now (S.files shelf.old) (HasStarted (S.starts shelf.old) (S.starts shelf.new)))
+        (Rose (S.write_faults shelf.old) (S.write_faults shelf.new))
+        (IsKept (S.files shelf.old) (HasStarted (S.starts shelf.old) (S.starts shelf.new))) (S.files shelf.new) result }
     ensures counts { Later (S.read_faults shelf.old) (S.read_faults shelf.new) (S.write_faults shelf.old) (S.write_faults shelf.new) }
 {
     match Command::of(words) {

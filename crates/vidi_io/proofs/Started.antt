@@ -1,7 +1,6 @@
 -- A file of a shelf that a sink starts and adds to.
 use Rattle.std.proofs.Common.{◌≡◌, ◌⊎◌, ℕ, ◌<◌, ◌≤◌, Bool, true, false, cond, List, [], ◌∷◌, ◌++◌, Option, Some, None, Result, Ok, Err}
 use Rattle.std.proofs.Common.{OnOk, OnErr, unwrap_or, length, take, drop, inl, inr, ⊎_elim, refl, sym, ap, subst, ◌∙◌, arith}
-use Rattle.std.proofs.lemmas.Bool.{true≢false}
 use Rattle.std.proofs.lemmas.List.{append-nil, take-append-drop}
 use Rattle.std.proofs.lemmas.Option.{same_Some}
 use Rattle.std.proofs.lemmas.Map.Text.{is_eq-slice_cmp}
@@ -10,7 +9,7 @@ use Rattle.std.specs.FinMap.{get, insert, get-insert}
 use Rattle.std.specs.Io.KnownBytes.{append_known}
 use Rattle.std.specs.Str.{bytes_eq}
 use Rattle.vidi_bits.proofs.Lists.{bytes_eq-self}
-use Rattle.vidi_io.specs.Shelf.{Files, bytes_of, holding, emptied, appended, GrewBySome}
+use Rattle.vidi_io.specs.Shelf.{Files, HasStarted, bytes_of, holding, emptied, appended, GrewBySome}
 use Rattle.vidi_io.specs.ShelfSink.{bytes_written, IsOver}
 use Rattle.vidi_io.specs.Sink.{Frame, AppendsSome}
 use Rattle.vidi_io.proofs.Names.{same_files}
@@ -94,11 +93,11 @@ pushed_some started old new was name piece s w (inr (k, e)) = record {
 -- ---- the frame
 -- a start
 pub over-started : (old new : Option Files) (name : List ℕ) (reads reads' : List ℕ → ℕ) (starts starts' : ℕ) (f : Frame)
-    → new ≡ emptied old name → ((q : List ℕ) → reads q ≤ reads' q) → IsOver false old name reads starts f
+    → new ≡ emptied old name → HasStarted starts starts' true → ((q : List ℕ) → reads q ≤ reads' q) → IsOver false old name reads starts f
     → IsOver true new name reads' starts' f
-over-started old new name reads reads' starts starts' f e later o = record {
+over-started old new name reads reads' starts starts' f e once later o = record {
   same_name = o.same_name;
-  unstarted = λ not. absurd (true≢false not);
+  once = subst (λ n. HasStarted n starts' true) o.once once;
   others = (
     [],
     e ∙ ⊎_elim (λ s. ap (λ fs. emptied fs name) s) (λ s. ap (λ fs. emptied fs name) s ∙ holding-holding f.files name [] [])
@@ -113,7 +112,7 @@ pub over-kept : (old new : Option Files) (name : List ℕ) (reads reads' : List 
     → IsOver false old name reads starts f → IsOver false new name reads' starts' f
 over-kept old new name reads reads' starts starts' f cause same later o = record {
   same_name = o.same_name;
-  unstarted = λ not. same ∙ o.unstarted not;
+  once = same ∙ o.once;
   others = ⊎_elim
       (λ (e : new ≡ old). ⊎_elim (λ s. inl (e ∙ s)) (λ s. inr (e ∙ s)) o.others)
       (λ (e : new ≡ emptied old name). inr (e ∙ ⊎_elim (λ s. ap (λ fs. emptied fs name) s)
@@ -123,47 +122,48 @@ over-kept old new name reads reads' starts starts' f cause same later o = record
 }
 
 over-appended : (old new : Option Files) (name piece : List ℕ) (reads reads' : List ℕ → ℕ) (starts starts' : ℕ) (f : Frame)
-    → new ≡ appended old name piece → ((q : List ℕ) → reads q ≤ reads' q) → IsOver true old name reads starts f
+    → new ≡ appended old name piece → starts' ≡ starts → ((q : List ℕ) → reads q ≤ reads' q) → IsOver true old name reads starts f
     → IsOver true new name reads' starts' f
-over-appended old new name piece reads reads' starts starts' f e later o = record {
+over-appended old new name piece reads reads' starts starts' f e same later o = record {
   same_name = o.same_name;
-  unstarted = λ not. absurd (true≢false not);
+  once = same ∙ o.once;
   others = (o.others.0 ++ piece, e ∙ ap (λ fs. appended fs name piece) o.others.1 ∙ appended-holding f.files name o.others.0 piece);
   counts = λ q. omega (arith, o.counts q, later q);
 }
 
 over-same : (old new : Option Files) (name : List ℕ) (reads reads' : List ℕ → ℕ) (starts starts' : ℕ) (f : Frame) → new ≡ old
-    → ((q : List ℕ) → reads q ≤ reads' q) → IsOver true old name reads starts f → IsOver true new name reads' starts' f
-over-same old new name reads reads' starts starts' f e later o = record {
+    → starts' ≡ starts → ((q : List ℕ) → reads q ≤ reads' q) → IsOver true old name reads starts f → IsOver true new name reads' starts' f
+over-same old new name reads reads' starts starts' f e same later o = record {
   same_name = o.same_name;
-  unstarted = λ not. absurd (true≢false not);
+  once = same ∙ o.once;
   others = (o.others.0, e ∙ o.others.1);
   counts = λ q. omega (arith, o.counts q, later q);
 }
 
 over-grown : (old new : Option Files) (name piece : List ℕ) (reads reads' : List ℕ → ℕ) (starts starts' : ℕ) (f : Frame)
-    → GrewBySome old new name piece → ((q : List ℕ) → reads q ≤ reads' q) → IsOver true old name reads starts f
+    → GrewBySome old new name piece → starts' ≡ starts → ((q : List ℕ) → reads q ≤ reads' q) → IsOver true old name reads starts f
     → IsOver true new name reads' starts' f
-over-grown old new name piece reads reads' starts starts' f (inl e) later o = over-same old new name reads reads' starts starts' f e later o
-over-grown old new name piece reads reads' starts starts' f (inr (k, e)) later o =
-    over-appended old new name (take k piece) reads reads' starts starts' f e later o
+over-grown old new name piece reads reads' starts starts' f (inl e) same later o =
+    over-same old new name reads reads' starts starts' f e same later o
+over-grown old new name piece reads reads' starts starts' f (inr (k, e)) same later o =
+    over-appended old new name (take k piece) reads reads' starts starts' f e same later o
 
 over-answered : {T E : Type 0} (r : Result T E) (old new : Option Files) (name piece : List ℕ) (reads reads' : List ℕ → ℕ)
     (starts starts' : ℕ) (f : Frame) → OnOk r (new ≡ appended old name piece) → OnErr r (GrewBySome old new name piece)
-    → ((q : List ℕ) → reads q ≤ reads' q) → IsOver true old name reads starts f → IsOver true new name reads' starts' f
-over-answered (Ok x) old new name piece reads reads' starts starts' f ok err later o =
-    over-appended old new name piece reads reads' starts starts' f ok later o
-over-answered (Err e) old new name piece reads reads' starts starts' f ok err later o =
-    over-grown old new name piece reads reads' starts starts' f err later o
+    → starts' ≡ starts → ((q : List ℕ) → reads q ≤ reads' q) → IsOver true old name reads starts f → IsOver true new name reads' starts' f
+over-answered (Ok x) old new name piece reads reads' starts starts' f ok err same later o =
+    over-appended old new name piece reads reads' starts starts' f ok same later o
+over-answered (Err e) old new name piece reads reads' starts starts' f ok err same later o =
+    over-grown old new name piece reads reads' starts starts' f err same later o
 
 -- an append, whatever it answers
 pub over-pushed : {T E : Type 0} (started : Bool) (r : Result T E) (old new : Option Files) (name piece : List ℕ)
     (reads reads' : List ℕ → ℕ) (starts starts' : ℕ) (f : Frame) → started ≡ true → OnOk r (new ≡ appended old name piece)
-    → OnErr r (GrewBySome old new name piece) → ((q : List ℕ) → reads q ≤ reads' q) → IsOver started old name reads starts f
-    → IsOver started new name reads' starts' f
-over-pushed started r old new name piece reads reads' starts starts' f s ok err later o =
+    → OnErr r (GrewBySome old new name piece) → starts' ≡ starts → ((q : List ℕ) → reads q ≤ reads' q)
+    → IsOver started old name reads starts f → IsOver started new name reads' starts' f
+over-pushed started r old new name piece reads reads' starts starts' f s ok err same later o =
     subst (λ (b : Bool). IsOver b new name reads' starts' f) (sym s)
-    (over-answered r old new name piece reads reads' starts starts' f ok err later
+    (over-answered r old new name piece reads reads' starts starts' f ok err same later
     (subst (λ (b : Bool). IsOver b old name reads starts f) s o))
 
 on-ok : {T E : Type 0} (r : Result T E) (P Q : Type 0) → (P → Q) → OnOk r P → OnOk r Q

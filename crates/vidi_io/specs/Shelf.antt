@@ -1,5 +1,6 @@
 -- What a shelf tells: a finite map from names to bytes, and how calls change it.
-use Rattle.std.specs.Prelude.{◌≡◌, ℕ, ◌-◌, ◌<◌, ◌≤◌, ◌⊎◌, List, [], ◌++◌, Option, length, take, drop, unwrap_or, option_map}
+use Rattle.std.specs.Prelude.{◌≡◌, ℕ, ◌+◌, ◌-◌, ◌^◌, ◌<◌, ◌≤◌, ◌⊎◌, Bool, true, false, List, [], ◌++◌, Option, length, min, take, drop}
+use Rattle.std.specs.Prelude.{unwrap_or, option_map}
 use Rattle.std.specs.Ordering.{nat_cmp}
 use Rattle.std.specs.Cmp.Lexicographic.{slice_cmp}
 use Rattle.std.specs.FinMap.{FinMap, get, insert}
@@ -30,6 +31,11 @@ appended files name piece = option_map (λ m. insert m name (bytes_of m name ++ 
 -- after a failed append: as before, or grown by some prefix of the piece
 abbrev pub GrewBySome : Option Files → Option Files → List ℕ → List ℕ → Type 0
 GrewBySome old new name piece = (new ≡ old) ⊎ ((k : ℕ) × (new ≡ appended old name (take k piece)))
+
+-- whether a file was started: exactly one start succeeded, or none. The count of starts stays at its last value.
+abbrev pub HasStarted : ℕ → ℕ → Bool → Type 0
+HasStarted before now true = now ≡ min (before + 1) (2 ^ 64 - 1)
+HasStarted before now false = now ≡ before
 
 -- no count fell
 pub record Later (old_reads new_reads : List ℕ → ℕ) (old_writes new_writes : ℕ) : Type 0 where

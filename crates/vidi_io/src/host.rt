@@ -1,8 +1,9 @@
 //! The shelf and the sink of the machine that the program runs on.
 
-ghost use Rattle.std.specs.Prelude.{◌≡◌, ◌≤◌, ◌↔◌, length, IfOk, IfSome, IsSomeAnd, IsTrue, OnOk, OnErr};
+ghost use Rattle.std.specs.Prelude.{◌≡◌, ◌≤◌, ◌↔◌, true, length, IfOk, IfSome, IsSomeAnd, IsTrue, OnOk, OnErr};
 ghost use Rattle.std.specs.Io.KnownBytes.{Appends};
 ghost use Rattle.vidi_io.specs.Cause.{Rose};
+ghost use Rattle.vidi_io.specs.Shelf.{HasStarted};
 
 use crate::shelf::{FetchError, Shelf};
 use crate::sink::{Failed, Sink};
@@ -89,7 +90,7 @@ impl<'a, R: Files + AllocGlobal> HostShelf<'a, R> {
         ensures let_go { self.new.kept ≡ None }
         ensures reads { self.new.read_faults ≡ self.old.read_faults }
         ensures writes { self.new.write_faults ≡ self.old.write_faults }
-        ensures started { OnOk result (Rose self.old.starts self.new.starts) }
+        ensures started { OnOk result (HasStarted self.old.starts self.new.starts true) }
         ensures unstarted { OnErr result (self.new.starts ≡ self.old.starts) }
     {
         self.kept = None;

@@ -1,6 +1,6 @@
 //! A shelf in memory.
 
-ghost use Rattle.std.specs.Prelude.{◌≡◌, ◌≢◌, ℕ, ◌≤◌, ◌⊎◌, List, None, Some, Err, IsErr, length, take, IfOk, OnOk, OnErr, OnSome, IfNone};
+ghost use Rattle.std.specs.Prelude.{◌≡◌, ◌≢◌, ℕ, ◌≤◌, ◌⊎◌, true, List, None, Some, Err, IsErr, length, take, IfOk, OnOk, OnErr, OnSome, IfNone};
 ghost use Rattle.std.specs.Prelude.{IfSome, IsSomeAnd, IsErrOf, MatchOption};
 ghost use Rattle.std.specs.Option.{option_copied};
 ghost use Rattle.std.specs.FinMap.{get, empty, insert};
@@ -9,7 +9,7 @@ ghost use Rattle.vidi_io.specs.Entries.{files_of, faults_of, room_of, Became, La
 ghost use Rattle.vidi_io.specs.Fails.{next_listed, counted};
 ghost use Rattle.vidi_io.specs.MemShelf.{entries, planned, failed_writes, starts_of};
 ghost use Rattle.vidi_io.specs.Listed.{FetchAnswer, KeptFront};
-ghost use Rattle.vidi_io.specs.Shelf.{Gives, GrewBySome, Later, SameCounts, appended, emptied};
+ghost use Rattle.vidi_io.specs.Shelf.{Gives, GrewBySome, HasStarted, Later, SameCounts, appended, emptied};
 
 use crate::entries::{
     Entry, append_file, count_fault, file_of, hold_file, reserve_file, start_file,
@@ -166,7 +166,7 @@ impl Shelf for MemShelf {
 
     fn start(&mut self, name: &str) -> Result<(), Failed>
         ensures ok { OnOk result (Some (files_of (entries self.new)) ≡ emptied (Some (files_of (entries self.old))) name.now) }
-        ensures started { OnOk result (Rose (starts_of self.old) (starts_of self.new)) }
+        ensures started { OnOk result (HasStarted (starts_of self.old) (starts_of self.new) true) }
         ensures err { OnErr result ((Some (files_of (entries self.new)) ≡ Some (files_of (entries self.old)))
             ⊎ (Some (files_of (entries self.new)) ≡ emptied (Some (files_of (entries self.old))) name.now)) }
         ensures unstarted { OnErr result (starts_of self.new ≡ starts_of self.old) }

@@ -1,9 +1,9 @@
 //! What holds files by name.
 
-ghost use Rattle.std.specs.Prelude.{◌≡◌, ℕ, ◌≤◌, ◌⊎◌, List, Option, None, Err, length, IfOk, OnOk, OnErr, IfSome, IsSomeAnd, IsErrOf};
+ghost use Rattle.std.specs.Prelude.{◌≡◌, ℕ, ◌≤◌, ◌⊎◌, true, List, Option, None, Err, length, IfOk, OnOk, OnErr, IfSome, IsSomeAnd, IsErrOf};
 ghost use Rattle.std.specs.FinMap.{get};
 ghost use Rattle.vidi_io.specs.Cause.{Rose};
-ghost use Rattle.vidi_io.specs.Shelf.{Files, Gives, Later, SameCounts, appended, emptied, GrewBySome};
+ghost use Rattle.vidi_io.specs.Shelf.{Files, Gives, HasStarted, Later, SameCounts, appended, emptied, GrewBySome};
 
 use crate::sink::Failed;
 use thiserror::Error;
@@ -50,10 +50,11 @@ pub trait Shelf {
         ensures starts { starts self.new ≡ starts self.old }
         ensures counts { Later (read_faults self.old) (read_faults self.new) (write_faults self.old) (write_faults self.new) };
 
-    /// Makes the file empty, whether it is new or old. After `Failed` it is as before or empty.
+    /// Makes the file empty, whether it is new or old, and counts exactly one start. After `Failed` it is as before or empty, and no start
+    /// is counted.
     fn start(&mut self, name: &str) -> Result<(), Failed>
         ensures ok { OnOk result (files self.new ≡ emptied (files self.old) name.now) }
-        ensures started { OnOk result (Rose (starts self.old) (starts self.new)) }
+        ensures started { OnOk result (HasStarted (starts self.old) (starts self.new) true) }
         ensures err { OnErr result ((files self.new ≡ files self.old) ⊎ (files self.new ≡ emptied (files self.old) name.now)) }
         ensures unstarted { OnErr result (starts self.new ≡ starts self.old) }
         ensures failed { OnErr result (Rose (write_faults self.old) (write_faults self.new)) }

@@ -1,5 +1,5 @@
 -- What `salvage` keeps of a recording that broke off.
-use Rattle.std.proofs.Common.{◌≡◌, ◌≤◌, ◌+◌, ℕ, zero, suc, List, [], ◌∷◌, ◌++◌, Option, Some, Result, Err, length, take, inl, inr, refl, sym, ap, subst, ◌∙◌, arith, ⊎_elim}
+use Rattle.std.proofs.Common.{◌≡◌, ◌≤◌, ◌+◌, ℕ, zero, suc, Bool, List, [], ◌∷◌, ◌++◌, Option, Some, Result, Err, length, take, inl, inr, refl, sym, ap, subst, ◌∙◌, arith, ⊎_elim}
 use Rattle.std.specs.FinMap.{get}
 use Rattle.std.specs.List.{flat_map}
 use Rattle.std.proofs.lemmas.List.{length-take, length-take-le, length-append, take_at}
@@ -72,16 +72,16 @@ module _ (law : FrontIsSalvaged) (t : Trace) (bytes : List ℕ) (encodes : HasEn
   count-is : (k : ℕ) → LieWhole t (length bytes) k → length (take k t.packets) ≡ k
   count-is k lie = length-take-le k t.packets lie.there
 
-  saved : length (encode t) ≤ trace_limit → (trace out : List ℕ) (now : Files) → get now trace ≡ Some bytes → (status : Status)
-      (text : List ℕ) (left : Option Files) → Saves trace out (Some now) (λ _. ⊥) status text left
+  saved : length (encode t) ≤ trace_limit → (trace out : List ℕ) (now : Files) → get now trace ≡ Some bytes → (P : Bool → Type 0)
+      (status : Status) (text : List ℕ) (left : Option Files) → Saves trace out (Some now) (λ _. ⊥) P status text left
       → KeepsWhole t bytes out now status text left
-  saved small trace out now at status text left saves = go (read-there trace_limit trace bytes now at (fits small)) saves
+  saved small trace out now at P status text left saves = go (read-there trace_limit trace bytes now at (fits small)) saves
     where
-      go : IsRead trace_limit trace (Some now) bytes → Saves trace out (Some now) (λ _. ⊥) status text left
+      go : IsRead trace_limit trace (Some now) bytes → Saves trace out (Some now) (λ _. ⊥) P status text left
           → KeepsWhole t bytes out now status text left
       go read (inl (unsaved, same)) = absurd (reading-apart trace_limit words.Trace trace now IsHeaderless bytes read status text
           (λ none. has-header none.0) unsaved)
-      go read (inr (u, (file, read', whole), said, same)) =
+      go read (inr (u, (file, read', whole), said, (same, _))) =
           let file_is : file ≡ bytes = one-read trace_limit trace now file bytes read' read in
           let (k, lie, e) = kept u (subst (λ (b : List ℕ). Salvages b (found u)) file_is whole) in
           record {
@@ -93,9 +93,9 @@ module _ (law : FrontIsSalvaged) (t : Trace) (bytes : List ℕ) (encodes : HasEn
           }
 
 pub broken-salvaged : FrontIsSalvaged → BrokenRecordingIsSalvaged
-broken-salvaged law design m script stalls files b plan planned rows stop run bytes broken trace out now at status text left saves =
+broken-salvaged law design m script stalls files b plan planned rows stop run bytes broken trace out now at P status text left saves =
     saved law (trace_of b.device.map.channels rows) bytes (run-kept design m script stalls files b plan planned rows stop run).encoded broken
-    (recorded-short design m script stalls files b plan planned rows stop run) trace out now at status text left saves
+    (recorded-short design m script stalls files b plan planned rows stop run) trace out now at P status text left saves
 
 -- ---- a front is no longer than the whole
 

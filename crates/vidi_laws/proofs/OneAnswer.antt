@@ -1,5 +1,5 @@
 -- Of a shelf that tells its files, with no failed read, two answers that are earned are one.
-use Rattle.std.proofs.Common.{◌≡◌, ℕ, List, [], ◌∷◌, Option, Some, length, get_or, inl, inr, sym, ap, subst, ◌∙◌, arith, codes}
+use Rattle.std.proofs.Common.{◌≡◌, ℕ, Bool, List, [], ◌∷◌, Option, Some, length, get_or, inl, inr, sym, ap, subst, ◌∙◌, arith, codes}
 use Rattle.vidi_commands.proofs.vidi_bits_lemmas.Lists.{some_same}
 use Rattle.vidi_commands.specs.vidi_lines.Number.{number_of}
 use Rattle.vidi_commands.specs.trace_code.Decoding.{OnePlace, OneReading}
@@ -276,35 +276,35 @@ pub record Laws : Type 0 where
   pub benches : BenchLaws
   pub replays : ReplayLaws
 
-one_deed : Laws → (c : Command) → (files : Files) (a b : Status) (x y : List ℕ) (left right : Option Files)
-    → Does c (Some files) (λ _. ⊥) a x left → Does c (Some files) (λ _. ⊥) b y right → AlikeLeft a b x y left right
-one_deed laws (Dump trace) files a b x y left right (d, l) (e, r) =
+one_deed : Laws → (c : Command) → (files : Files) (P Q : Bool → Type 0) (a b : Status) (x y : List ℕ) (left right : Option Files)
+    → Does c (Some files) (λ _. ⊥) P a x left → Does c (Some files) (λ _. ⊥) Q b y right → AlikeLeft a b x y left right
+one_deed laws (Dump trace) files P Q a b x y left right (d, (l, _)) (e, (r, _)) =
     kept files a b x y left right (inr (one_dump laws.reading laws.place trace files a b x y d e)) l r
-one_deed laws (Run design map script) files a b x y left right (d, l) (e, r) =
+one_deed laws (Run design map script) files P Q a b x y left right (d, (l, _)) (e, (r, _)) =
     kept files a b x y left right (one_run laws.benches design map script files a b x y d e) l r
-one_deed laws (Record design map script stalls trace) files a b x y left right d e =
-    one_record laws.benches design map script stalls trace files a b x y left right d e
-one_deed laws (Replay design map trace n out) files a b x y left right d e =
-    one_replay laws.replays design map trace n out files a b x y left right d e
-one_deed laws (Check design top) files a b x y left right (d, l) (e, r) =
+one_deed laws (Record design map script stalls trace) files P Q a b x y left right d e =
+    one_record laws.benches design map script stalls trace files P Q a b x y left right d e
+one_deed laws (Replay design map trace n out) files P Q a b x y left right d e =
+    one_replay laws.replays design map trace n out files P Q a b x y left right d e
+one_deed laws (Check design top) files P Q a b x y left right (d, (l, _)) (e, (r, _)) =
     kept files a b x y left right (one_check laws.benches.devices.texts design top files a b x y d e) l r
-one_deed laws (Compare trace other) files a b x y left right (d, l) (e, r) =
+one_deed laws (Compare trace other) files P Q a b x y left right (d, (l, _)) (e, (r, _)) =
     kept files a b x y left right (inr (one_compare laws.reading laws.place trace other files a b x y d e)) l r
-one_deed laws (Salvage trace out) files a b x y left right d e =
-    all-same a b x y left right (one_salvaged laws.salvage trace out files a b x y left right d e)
-one_deed laws (Wrap design map out) files a b x y left right d e =
-    one_wrap laws.benches.devices design map out files a b x y left right d e
-one_deed laws (Sample number) files a b x y left right (d, l) (e, r) =
+one_deed laws (Salvage trace out) files P Q a b x y left right d e =
+    all-same a b x y left right (one_salvaged laws.salvage trace out files P Q a b x y left right d e)
+one_deed laws (Wrap design map out) files P Q a b x y left right d e =
+    one_wrap laws.benches.devices design map out files P Q a b x y left right d e
+one_deed laws (Sample number) files P Q a b x y left right (d, (l, _)) (e, (r, _)) =
     kept files a b x y left right (one_sample laws.benches laws.replays number a b x y d e) l r
 
 pub one_answer_lem : Laws → OneAnswer
-one_answer_lem laws words files a b x y left right (inr (inl (said, _))) _ = inl said.0
-one_answer_lem laws words files a b x y left right _ (inr (inl (said, _))) = inr (inl said.0)
-one_answer_lem laws words files a b x y left right (inl (none, s, l)) (inl (none', s', r)) =
+one_answer_lem laws words files P Q a b x y left right (inr (inl (said, _))) _ = inl said.0
+one_answer_lem laws words files P Q a b x y left right _ (inr (inl (said, _))) = inr (inl said.0)
+one_answer_lem laws words files P Q a b x y left right (inl (none, s, (l, _))) (inl (none', s', (r, _))) =
     inr (inr (inr (s.0 ∙ sym s'.0, s.1 ∙ sym s'.1), l ∙ sym r))
-one_answer_lem laws words files a b x y left right (inl (none, s, l)) (inr (inr (c, given, d))) = absurd (none c given)
-one_answer_lem laws words files a b x y left right (inr (inr (c, given, d))) (inl (none, s, r)) = absurd (none c given)
-one_answer_lem laws words files a b x y left right (inr (inr (c, given, d))) (inr (inr (k, given', e))) =
+one_answer_lem laws words files P Q a b x y left right (inl (none, s, l)) (inr (inr (c, given, d))) = absurd (none c given)
+one_answer_lem laws words files P Q a b x y left right (inr (inr (c, given, d))) (inl (none, s, r)) = absurd (none c given)
+one_answer_lem laws words files P Q a b x y left right (inr (inr (c, given, d))) (inr (inr (k, given', e))) =
     let same = one_command words k c given' given in
-    inr (inr (one_deed laws c files a b x y left right d
-    (subst (λ (m : Command). Does m (Some files) (λ _. ⊥) b y right) same e)))
+    inr (inr (one_deed laws c files P Q a b x y left right d
+    (subst (λ (m : Command). Does m (Some files) (λ _. ⊥) Q b y right) same e)))

@@ -1,5 +1,5 @@
 -- `salvage`: one answer with one set of files.
-use Rattle.std.proofs.Common.{◌≡◌, ◌⊎◌, ℕ, List, ◌++◌, Option, Some, Result, Ok, Err, length, inl, inr, ⊎_elim, sym, ap, subst, ◌∙◌}
+use Rattle.std.proofs.Common.{◌≡◌, ◌⊎◌, ℕ, Bool, List, ◌++◌, Option, Some, Result, Ok, Err, length, inl, inr, ⊎_elim, sym, ap, subst, ◌∙◌}
 use Rattle.std.specs.List.{flat_map}
 use Rattle.vidi_commands.specs.trace_model.declared.trace.Trace.{Trace}
 use Rattle.vidi_commands.specs.trace_code.declared.error.CodeError.{CodeError}
@@ -57,16 +57,16 @@ unsaved-whole one trace files a x t (inl u) (f, read, whole) = unread-read trace
 unsaved-whole one trace files a x t (inr (g, read', (none, s))) (f, read, whole) =
     no_header f t whole (subst HasNoHeader (one-read trace_limit trace files g f read' read) none)
 
-pub one_salvaged : OneSalvage → (trace out : List ℕ) (files : Files) (a b : Status) (x y : List ℕ) (left right : Option Files)
-    → Saves trace out (Some files) (λ _. ⊥) a x left → Saves trace out (Some files) (λ _. ⊥) b y right
+pub one_salvaged : OneSalvage → (trace out : List ℕ) (files : Files) (P Q : Bool → Type 0) (a b : Status) (x y : List ℕ)
+    (left right : Option Files) → Saves trace out (Some files) (λ _. ⊥) P a x left → Saves trace out (Some files) (λ _. ⊥) Q b y right
     → (a ≡ b) × (x ≡ y) × (left ≡ right)
-one_salvaged one trace out files a b x y left right (inl (u, same)) (inl (v, same')) =
+one_salvaged one trace out files P Q a b x y left right (inl (u, (same, _))) (inl (v, (same', _))) =
     let e = one-unsaved trace files a b x y u v in (e.0, e.1, same ∙ sym same')
-one_salvaged one trace out files a b x y left right (inl (u, same)) (inr (t, whole, s, same')) =
+one_salvaged one trace out files P Q a b x y left right (inl (u, same)) (inr (t, whole, s, same')) =
     absurd (unsaved-whole one trace files a x t u whole)
-one_salvaged one trace out files a b x y left right (inr (t, whole, s, same)) (inl (u, same')) =
+one_salvaged one trace out files P Q a b x y left right (inr (t, whole, s, same)) (inl (u, same')) =
     absurd (unsaved-whole one trace files b y t u whole)
-one_salvaged one trace out files a b x y left right (inr (t, whole, s, same)) (inr (u, whole', s', same')) =
+one_salvaged one trace out files P Q a b x y left right (inr (t, whole, s, (same, _))) (inr (u, whole', s', (same', _))) =
     let e = one-whole one trace files t u whole whole' in (
       s.0 ∙ sym s'.0,
       s.1 ∙ ap (λ (v : Trace). salvaged_line (length v.packets)) e ∙ sym s'.1,

@@ -1,5 +1,5 @@
 -- `record`: one answer, which leaves one trace.
-use Rattle.std.proofs.Common.{◌≡◌, ℕ, ◌≤◌, false, List, Option, None, Some, Ok, Err, inl, inr, length, sym, ap, subst, ◌∙◌, arith}
+use Rattle.std.proofs.Common.{◌≡◌, ℕ, ◌≤◌, Bool, false, List, Option, None, Some, Ok, Err, inl, inr, length, sym, ap, subst, ◌∙◌, arith}
 use Rattle.vidi_commands.specs.trace_model.declared.channel.Channel.{Channel}
 use Rattle.vidi_commands.specs.trace_model.declared.row.Row.{Row}
 use Rattle.vidi_commands.specs.trace_model.Recording.{packets_of, trace_of}
@@ -193,10 +193,10 @@ module _ (laws : BenchLaws) where
       (λ before are g h. one-set (sizes_of channels) (plan_of p) before (length before) false g h)
       b.script.cycles others rows end stop theirs run
 
-  runs-once : (b c : Bench) (p : Stalls) → SameBench b c → (trace : List ℕ) (files : Files) (s t : Status) (x y : List ℕ)
-      (left right : Option Files) → RecordsRun (course_of b p) trace (Some files) s x left
-      → RecordsRun (beside b p c) trace (Some files) t y right → LeftAlike s t x y left right
-  runs-once b c p same trace files s t x y left right (rows, stop, (run, leaves), said) (others, end, (run', leaves'), said') =
+  runs-once : (b c : Bench) (p : Stalls) → SameBench b c → (trace : List ℕ) (files : Files) (P Q : Bool → Type 0) (s t : Status)
+      (x y : List ℕ) (left right : Option Files) → RecordsRun (course_of b p) trace (Some files) P s x left
+      → RecordsRun (beside b p c) trace (Some files) Q t y right → LeftAlike s t x y left right
+  runs-once b c p same trace files P Q s t x y left right (rows, stop, (run, leaves, _), said) (others, end, (run', leaves', _), said') =
       let channels = b.device.map.channels in
       let one = run-once b c p same rows others stop end run run' in
       let told = subst (λ (o : Option ℕ). IsRecorded channels rows o t y) one.1
@@ -205,16 +205,16 @@ module _ (laws : BenchLaws) where
         leaves ∙ ap (λ (rs : List Row). holding (Some files) trace (encode (trace_of channels rs))) (sym one.0) ∙ sym leaves',
       )
 
-  pub one_record : (design m script stalls trace : List ℕ) (files : Files) (a b : Status) (x y : List ℕ) (left right : Option Files)
-      → Records design m script stalls trace (Some files) (λ _. ⊥) a x left
-      → Records design m script stalls trace (Some files) (λ _. ⊥) b y right → LeftAlike a b x y left right
-  one_record design m script stalls trace files a b x y left right (inl (u, l)) (inl (v, r)) =
+  pub one_record : (design m script stalls trace : List ℕ) (files : Files) (P Q : Bool → Type 0) (a b : Status) (x y : List ℕ)
+      (left right : Option Files) → Records design m script stalls trace (Some files) (λ _. ⊥) P a x left
+      → Records design m script stalls trace (Some files) (λ _. ⊥) Q b y right → LeftAlike a b x y left right
+  one_record design m script stalls trace files P Q a b x y left right (inl (u, (l, _))) (inl (v, (r, _))) =
       (unrecorded design m script stalls files a b x y u v, l ∙ sym r)
-  one_record design m script stalls trace files a b x y left right (inl (u, l)) (inr (c, q, planned, records)) =
+  one_record design m script stalls trace files P Q a b x y left right (inl (u, l)) (inr (c, q, planned, records)) =
       absurd (unrecorded-apart design m script stalls files c q planned a x u)
-  one_record design m script stalls trace files a b x y left right (inr (c, p, planned, records)) (inl (v, r)) =
+  one_record design m script stalls trace files P Q a b x y left right (inr (c, p, planned, records)) (inl (v, r)) =
       absurd (unrecorded-apart design m script stalls files c p planned b y v)
-  one_record design m script stalls trace files a b x y left right (inr (c, p, planned, records)) (inr (e, q, planned', records')) =
+  one_record design m script stalls trace files P Q a b x y left right (inr (c, p, planned, records)) (inr (e, q, planned', records')) =
       let same = planned-once design m script stalls files c e p q planned planned' in
-      runs-once c e p same.0 trace files a b x y left right records
-      (course-beside (λ (w : Course). RecordsRun w trace (Some files) b y right) c e p q same.0 same.1 records')
+      runs-once c e p same.0 trace files P Q a b x y left right records
+      (course-beside (λ (w : Course). RecordsRun w trace (Some files) Q b y right) c e p q same.0 same.1 records')

@@ -1,5 +1,5 @@
 -- `replay`: one answer, which leaves one trace.
-use Rattle.std.proofs.Common.{◌≡◌, ℕ, List, Option, Some, inl, inr, ◌++◌, ◌∷◌, [], sym, ap, subst, ◌∙◌}
+use Rattle.std.proofs.Common.{◌≡◌, ℕ, Bool, List, Option, Some, inl, inr, ◌++◌, ◌∷◌, [], sym, ap, subst, ◌∙◌}
 use Rattle.std.specs.Prelude.{slice_get}
 use Rattle.vidi_commands.specs.trace_model.declared.channel.Channel.{Channel}
 use Rattle.vidi_commands.specs.trace_model.declared.packet.Packet.{Packet}
@@ -21,6 +21,7 @@ use Rattle.vidi_commands.specs.replay_run.declared.outcome.ReplayOutcome.TheVari
 use Rattle.vidi_commands.specs.replay_run.Laws.{OneOutcome}
 use Rattle.vidi_commands.specs.replay_run.Replaying.{EndsAs}
 use Rattle.vidi_commands.specs.vidi_io.Shelf.{Files, holding}
+use Rattle.vidi_commands.specs.vidi_io.Writing.{IsWritten}
 use Rattle.vidi_commands.specs.report_text.Short.{short_lines}
 use Rattle.vidi_commands.specs.report_text.declared.reason.Word.TheVariants as words
 use Rattle.vidi_commands.specs.vidi_bench.declared.device.Device.{Device}
@@ -85,9 +86,10 @@ said-once t u n (outcomes.Unstable channel cycle) a b x y v w =
     one-said (Unstable channel cycle) (unstable_line t.channels channel cycle) a b x y v w
 
 -- what is left of a design and a map
-abbrev LeavesReplay : Design → Map → Trace → ℕ → List ℕ → Option Files → Status → List ℕ → Option Files → Type 0
-LeavesReplay d m t n out files status text left = (rows : List Row) × (outcome : ReplayOutcome) × EndsAs d m t.packets n rows outcome
-    × IsReplaySaid t (trace_of m.channels rows) n outcome status text × (left ≡ holding files out (encode (trace_of m.channels rows)))
+abbrev LeavesReplay : Design → Map → Trace → ℕ → List ℕ → Option Files → (Bool → Type 0) → Status → List ℕ → Option Files → Type 0
+LeavesReplay d m t n out files Started status text left = (rows : List Row) × (outcome : ReplayOutcome) × EndsAs d m t.packets n rows outcome
+    × IsReplaySaid t (trace_of m.channels rows) n outcome status text
+    × IsWritten files out (encode (trace_of m.channels rows)) Started left
 
 pub fits : (t : Trace) (bytes : List ℕ) (channels : List Channel) → Encodes t bytes → t.channels ≡ channels → ContentsFit channels t.packets
 fits t bytes channels encodes same = subst (λ (cs : List Channel). ContentsFit cs t.packets) same encodes.0.well_formed.packets
@@ -160,9 +162,11 @@ module _ (laws : ReplayLaws) where
       (laws.outcome v.design v.map same.ready t.packets fit n).1 others rows other outcome theirs ends
 
   leaves-once : (v w : Device) (t : Trace) → SameDevice v w → ContentsFit v.map.channels t.packets → (n : ℕ) (out : List ℕ) (files : Files)
-      (a b : Status) (x y : List ℕ) (left right : Option Files) → LeavesReplay v.design v.map t n out (Some files) a x left
-      → LeavesReplay w.design v.map t n out (Some files) b y right → LeftAlike a b x y left right
-  leaves-once v w t same fit n out files a b x y left right (rows, outcome, ends, said, leaves) (others, other, ends', said', leaves') =
+      (P Q : Bool → Type 0) (a b : Status) (x y : List ℕ) (left right : Option Files)
+      → LeavesReplay v.design v.map t n out (Some files) P a x left → LeavesReplay w.design v.map t n out (Some files) Q b y right
+      → LeftAlike a b x y left right
+  leaves-once v w t same fit n out files P Q a b x y left right (rows, outcome, ends, said, (leaves, _))
+      (others, other, ends', said', (leaves', _)) =
       let channels = v.map.channels in
       let one = ends-once v w t same fit n rows others outcome other ends ends' in
       let told = subst (λ (o : ReplayOutcome). IsReplaySaid t (trace_of channels rows) n o b y) one.1
@@ -172,23 +176,23 @@ module _ (laws : ReplayLaws) where
       )
 
   replays-once : (v w : Device) (t u : Trace) → SameDevice v w → t ≡ u → ContentsFit v.map.channels t.packets → (n : ℕ) (out : List ℕ)
-      (files : Files) (a b : Status) (x y : List ℕ) (left right : Option Files) → ReplaysTrace v t n out (Some files) a x left
-      → ReplaysTrace w u n out (Some files) b y right → LeftAlike a b x y left right
-  replays-once v w t u same trace fit n out files a b x y left right replays replays' =
-      leaves-once v w t same fit n out files a b x y left right replays
-      (subst (λ (k : Trace). LeavesReplay w.design v.map k n out (Some files) b y right) (sym trace)
-      (subst (λ (k : Map). LeavesReplay w.design k u n out (Some files) b y right) (sym same.map) replays'))
+      (files : Files) (P Q : Bool → Type 0) (a b : Status) (x y : List ℕ) (left right : Option Files)
+      → ReplaysTrace v t n out (Some files) P a x left → ReplaysTrace w u n out (Some files) Q b y right → LeftAlike a b x y left right
+  replays-once v w t u same trace fit n out files P Q a b x y left right replays replays' =
+      leaves-once v w t same fit n out files P Q a b x y left right replays
+      (subst (λ (k : Trace). LeavesReplay w.design v.map k n out (Some files) Q b y right) (sym trace)
+      (subst (λ (k : Map). LeavesReplay w.design k u n out (Some files) Q b y right) (sym same.map) replays'))
 
-  pub one_replay : (design m trace : List ℕ) (n : ℕ) (out : List ℕ) (files : Files) (a b : Status) (x y : List ℕ)
-      (left right : Option Files) → Replays design m trace n out (Some files) (λ _. ⊥) a x left
-      → Replays design m trace n out (Some files) (λ _. ⊥) b y right → LeftAlike a b x y left right
-  one_replay design m trace n out files a b x y left right (inl (u, l)) (inl (v, r)) =
+  pub one_replay : (design m trace : List ℕ) (n : ℕ) (out : List ℕ) (files : Files) (P Q : Bool → Type 0) (a b : Status) (x y : List ℕ)
+      (left right : Option Files) → Replays design m trace n out (Some files) (λ _. ⊥) P a x left
+      → Replays design m trace n out (Some files) (λ _. ⊥) Q b y right → LeftAlike a b x y left right
+  one_replay design m trace n out files P Q a b x y left right (inl (u, (l, _))) (inl (v, (r, _))) =
       (unreplayed design m trace files a b x y u v, l ∙ sym r)
-  one_replay design m trace n out files a b x y left right (inl (u, l)) (inr (w, t, replayable, replays)) =
+  one_replay design m trace n out files P Q a b x y left right (inl (u, l)) (inr (w, t, replayable, replays)) =
       absurd (unreplayed-apart design m trace files w t replayable a x u)
-  one_replay design m trace n out files a b x y left right (inr (v, t, replayable, replays)) (inl (u, r)) =
+  one_replay design m trace n out files P Q a b x y left right (inr (v, t, replayable, replays)) (inl (u, r)) =
       absurd (unreplayed-apart design m trace files v t replayable b y u)
-  one_replay design m trace n out files a b x y left right (inr (v, t, replayable, replays)) (inr (w, u, replayable', replays')) =
+  one_replay design m trace n out files P Q a b x y left right (inr (v, t, replayable, replays)) (inr (w, u, replayable', replays')) =
       let same = replayable-once design m trace files v w t u replayable replayable' in
       replays-once v w t u same.0 same.1
-      (fits t replayable.trace_bytes v.map.channels replayable.encodes replayable.same) n out files a b x y left right replays replays'
+      (fits t replayable.trace_bytes v.map.channels replayable.encodes replayable.same) n out files P Q a b x y left right replays replays'

@@ -1,5 +1,5 @@
 -- `wrap`: one answer, which leaves one text.
-use Rattle.std.proofs.Common.{◌≡◌, ℕ, ◌≤◌, List, [], Option, None, Some, length, inl, inr, sym, ap, subst, ◌∙◌, arith}
+use Rattle.std.proofs.Common.{◌≡◌, ℕ, ◌≤◌, Bool, List, [], Option, None, Some, length, inl, inr, sym, ap, subst, ◌∙◌, arith}
 use Rattle.vidi_commands.specs.vidi_bits.Findings.{first}
 use Rattle.vidi_commands.proofs.vidi_bits_lemmas.Lists.{some_same}
 use Rattle.vlog_tree.specs.Tree.{FileOf}
@@ -164,17 +164,19 @@ module _ (laws : DeviceLaws) where
       (subst (λ (text : List ℕ). IsWrapping x.design_text text g l) n
       (subst (λ (text : List ℕ). IsWrapping text y.map_text g l) d y.wrapping))
 
-  pub one_wrap : (design m out : List ℕ) (files : Files) (a b : Status) (x y : List ℕ) (left right : Option Files)
-      → Wraps design m out (Some files) (λ _. ⊥) a x left → Wraps design m out (Some files) (λ _. ⊥) b y right
+  pub one_wrap : (design m out : List ℕ) (files : Files) (P Q : Bool → Type 0) (a b : Status) (x y : List ℕ) (left right : Option Files)
+      → Wraps design m out (Some files) (λ _. ⊥) P a x left → Wraps design m out (Some files) (λ _. ⊥) Q b y right
       → LeftAlike a b x y left right
-  one_wrap design m out files a b x y left right (inl (u, l)) (inl (v, r)) = (unwritten design m files a b x y u v, l ∙ sym r)
-  one_wrap design m out files a b x y left right (inl (u, l)) (inr (g, k, is, wrote)) = absurd (unwritten-apart design m files g k is a x u)
-  one_wrap design m out files a b x y left right (inr (f, k, is, wrote)) (inl (u, r)) = absurd (unwritten-apart design m files f k is b y u)
-  one_wrap design m out files a b x y left right (inr (f, k, is, (said, left_is))) (inr (g, l, is', wrote')) =
+  one_wrap design m out files P Q a b x y left right (inl (u, (l, _))) (inl (v, (r, _))) = (unwritten design m files a b x y u v, l ∙ sym r)
+  one_wrap design m out files P Q a b x y left right (inl (u, l)) (inr (g, k, is, wrote)) =
+      absurd (unwritten-apart design m files g k is a x u)
+  one_wrap design m out files P Q a b x y left right (inr (f, k, is, wrote)) (inl (u, r)) =
+      absurd (unwritten-apart design m files f k is b y u)
+  one_wrap design m out files P Q a b x y left right (inr (f, k, is, (said, (left_is, _)))) (inr (g, l, is', wrote')) =
       let same = wrappable-once design m files f g k l is is' in
-      let theirs : WrapsFile f k out (Some files) b y right =
-      subst (λ (h : FileOf ℕ). WrapsFile h k out (Some files) b y right) (sym same.0)
-      (subst (λ (n : Map). WrapsFile g n out (Some files) b y right) (sym same.1) wrote') in (
+      let theirs : WrapsFile f k out (Some files) Q b y right =
+      subst (λ (h : FileOf ℕ). WrapsFile h k out (Some files) Q b y right) (sym same.0)
+      (subst (λ (n : Map). WrapsFile g n out (Some files) Q b y right) (sym same.1) wrote') in (
         alike a b x y (one-said Done (wrapped_line (length k.channels)) a b x y said theirs.0),
-        left_is ∙ sym theirs.1,
+        left_is ∙ sym theirs.1.0,
       )

@@ -89,7 +89,8 @@ BrokenRecordingIsSalvaged = (design map script stalls : List ℕ) (files : Optio
     → IsPlanned design map script stalls files b plan → (rows : List Row) (stop : Option ℕ) → IsTheRunOf (course_of b plan) rows stop
     → (bytes : List ℕ) → IsBrokenOff (trace_of b.device.map.channels rows) bytes
     → (trace out : List ℕ) (now : Files) → get now trace ≡ Some bytes
-    → (status : Status) (text : List ℕ) (left : Option Files) → Saves trace out (Some now) (λ _. ⊥) status text left
+    → (Started : Bool → Type 0) (status : Status) (text : List ℕ) (left : Option Files)
+    → Saves trace out (Some now) (λ _. ⊥) Started status text left
     → KeepsWhole (trace_of b.device.map.channels rows) bytes out now status text left
 
 -- `replay` accepts what `salvage` leaves of it, the encoding of its first packets, where the files of the design and the map are those

@@ -1,5 +1,5 @@
 -- The command `wrap`: no failed write among its answers, and the same where no read failed.
-use Rattle.std.proofs.Common.{ℕ, List, Option, length, inl, inr}
+use Rattle.std.proofs.Common.{ℕ, Bool, List, Option, length, inl, inr}
 use Rattle.vlog_tree.specs.Tree.{FileOf}
 use Rattle.shim_gen.specs.chan_map.declared.pins.Map.{Map}
 use Rattle.shim_gen.specs.chan_map.declared.text.MapText.{MapText}
@@ -53,20 +53,21 @@ mute-unwritten design map files F = mute-reading text_limit words.Design design 
     (λ d. Reading text_limit words.Map map files F (RefusedWrap d))
     (λ d. mute-reading text_limit words.Map map files F (RefusedWrap d) (λ m. mute-refused_wrap d m))
 
-pub mute-wraps : (design map out : List ℕ) (files : Option Files) (F : List ℕ → Type 0) (x : List ℕ) (left : Option Files)
-    → Wraps design map out files F WriteFault x left → ⊥
-mute-wraps design map out files F x left (inl (unwritten, same)) = mute-unwritten design map files F x unwritten
-mute-wraps design map out files F x left (inr (f, m, wrappable, (said, held))) =
+pub mute-wraps : (design map out : List ℕ) (files : Option Files) (F : List ℕ → Type 0) (P : Bool → Type 0) (x : List ℕ)
+    (left : Option Files) → Wraps design map out files F P WriteFault x left → ⊥
+mute-wraps design map out files F P x left (inl (unwritten, same)) = mute-unwritten design map files F x unwritten
+mute-wraps design map out files F P x left (inr (f, m, wrappable, (said, held))) =
     mute-said Done (wrapped_line (length m.channels)) done-goes x said
 
 -- ---- where no read failed
-pub quiet-wraps : (design map out : List ℕ) (files : Option Files) (F : List ℕ → Type 0) (a : Status) (x : List ℕ) (left : Option Files)
-    → ((name : List ℕ) → ¬ F name) → Wraps design map out files F a x left → Wraps design map out files (λ _. ⊥) a x left
-quiet-wraps design map out files F a x left quiet (inl (unwritten, same)) =
+pub quiet-wraps : (design map out : List ℕ) (files : Option Files) (F : List ℕ → Type 0) (P : Bool → Type 0) (a : Status) (x : List ℕ)
+    (left : Option Files) → ((name : List ℕ) → ¬ F name) → Wraps design map out files F P a x left
+    → Wraps design map out files (λ _. ⊥) P a x left
+quiet-wraps design map out files F P a x left quiet (inl (unwritten, same)) =
     inl (
       quiet-reading text_limit words.Design design files F _ _ (quiet design)
           (λ d. quiet-reading text_limit words.Map map files F (RefusedWrap d) (RefusedWrap d) (quiet map)
           (λ m b y rest. rest)) a x unwritten,
       same,
     )
-quiet-wraps design map out files F a x left quiet (inr wrote) = inr wrote
+quiet-wraps design map out files F P a x left quiet (inr wrote) = inr wrote

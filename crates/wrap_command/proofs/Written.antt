@@ -1,9 +1,9 @@
 -- From the texts of a design and a map, and from the wrapped tree, to the answer of `wrap`.
-use Rattle.std.proofs.Common.{◌≡◌, ℕ, List, Option, Result, Ok, Err, length, inl, inr, ap, subst, ◌∙◌}
+use Rattle.std.proofs.Common.{◌≡◌, ℕ, Bool, true, false, List, Option, Result, Ok, Err, length, inl, inr, ap, subst, ◌∙◌}
 use Rattle.std.specs.Prelude.{IfOk, IfErr}
 use Rattle.vlog_tree.specs.Tree.{FileOf}
 use Rattle.vidi_bench.specs.vidi_io.Shelf.{Files, holding}
-use Rattle.vidi_bench.specs.vidi_io.Writing.{IsCutOff}
+use Rattle.vidi_bench.specs.vidi_io.Writing.{IsCutOff, IsKept}
 use Rattle.vidi_bench.proofs.vidi_io_lemmas.Cut.{cut-knowing}
 use Rattle.shim_gen.specs.chan_map.declared.pins.Map.{Map}
 use Rattle.shim_gen.specs.chan_map.declared.text.MapText.{MapText}
@@ -68,30 +68,36 @@ planned-said design map files d m (Ok p) first second (f, k, is, text, channels)
 planned-said design map files d m (Err e) first second planned = tt
 
 -- ---- what is owed for what is written
-pub written-owed : (design map out : List ℕ) (files now left : Option Files) (F : List ℕ → Type 0) (p : Wrapping) (V W X Y : Type 0)
-    (r : Result Answer Ended) → now ≡ files → IsPlanned design map files p.text p.channels → (V → W) → (X → Y)
+pub written-owed : (design map out : List ℕ) (files now left : Option Files) (F : List ℕ → Type 0) (p : Wrapping) (V W : Type 0)
+    (P Q : Bool → Type 0) (r : Result Answer Ended) → now ≡ files → IsPlanned design map files p.text p.channels → (V → W)
+    → ((once : Bool) → P once → Q once)
     → IfOk r (λ a. IsSaid Done (wrapped_line p.channels) a.status (text_of a.text))
-    → IfOk r (λ a. left ≡ holding now out p.text)
-    → IfErr r (IsStopped (IsCutOff now out p.text X) V now left)
-    → Owes (Wraps design map out files F) (StopsWrapping design map out files Y) W files left r
-written-owed design map out files now left F p V W X Y (Ok a) same (f, m, is, text, channels) why kept said holds stopped = inr (
+    → IfOk r (λ a. left ≡ holding now out p.text) → IfOk r (λ a. P true)
+    → IfErr r (IsStopped (IsCutOff now out p.text P) V (IsKept now P) left)
+    → Owes (Wraps design map out files F Q) (StopsWrapping design map out files Q) W (IsKept files Q) left r
+written-owed design map out files now left F p V W P Q (Ok a) same (f, m, is, text, channels) why kept said holds once stopped = inr (
   f,
   m,
   is,
   (
     (said.0, said.1 ∙ ap (λ (n : ℕ). wrapped_line n) channels),
-    holds ∙ ap (λ (fs : Option Files). holding fs out p.text) same ∙ ap (λ (b : List ℕ). holding files out b) text,
+    (
+      holds ∙ ap (λ (fs : Option Files). holding fs out p.text) same ∙ ap (λ (b : List ℕ). holding files out b) text,
+      kept true once,
+    ),
   ),
 )
-written-owed design map out files now left F p V W X Y (Err (ends.Refused a)) same is why kept said holds stopped = absurd stopped
-written-owed design map out files now left F p V W X Y (Err ends.WriteFault) same (f, m, is, text, channels) why kept said holds (failed, cut) = (
-  why failed,
-  (
-    f,
-    m,
-    is,
-    subst (λ (b : List ℕ). IsCutOff files out b Y left) text
-        (subst (λ (fs : Option Files). IsCutOff fs out p.text Y left) same (cut-knowing now left out p.text X Y kept cut)),
-  ),
-)
-written-owed design map out files now left F p V W X Y (Err ends.Memory) same is why kept said holds stays = stays ∙ same
+written-owed design map out files now left F p V W P Q (Err (ends.Refused a)) same is why kept said holds once stopped = absurd stopped
+written-owed design map out files now left F p V W P Q (Err ends.WriteFault) same (f, m, is, text, channels) why kept said holds once
+    (failed, cut) = (
+      why failed,
+      (
+        f,
+        m,
+        is,
+        subst (λ (b : List ℕ). IsCutOff files out b Q left) text
+            (subst (λ (fs : Option Files). IsCutOff fs out p.text Q left) same (cut-knowing now left out p.text P Q kept cut)),
+      ),
+    )
+written-owed design map out files now left F p V W P Q (Err ends.Memory) same is why kept said holds once (stays, none) =
+    (stays ∙ same, kept false none)

@@ -1,7 +1,7 @@
 -- What `wrap DESIGN MAP OUT` owes: each step of it in its order, and what is left in OUT.
-use Rattle.std.specs.Prelude.{◌≡◌, ℕ, ◌⊎◌, List, Option, Ok, length}
-use Rattle.vidi_bench.specs.vidi_io.Shelf.{Files, holding}
-use Rattle.vidi_bench.specs.vidi_io.Writing.{IsCutOff}
+use Rattle.std.specs.Prelude.{◌≡◌, ℕ, ◌⊎◌, Bool, List, Option, Ok, length}
+use Rattle.vidi_bench.specs.vidi_io.Shelf.{Files}
+use Rattle.vidi_bench.specs.vidi_io.Writing.{IsCutOff, IsKept, IsWritten}
 use Rattle.vlog_tree.specs.Tree.{FileOf}
 use Rattle.net_design.specs.declared.design.Design.{Design}
 use Rattle.vidi_bench.specs.net_order.Order.{IsOrder}
@@ -68,21 +68,22 @@ abbrev pub IsPlanned : List ℕ → List ℕ → Option Files → List ℕ → �
 IsPlanned design map files bytes channels = (f : FileOf ℕ) × (m : Map) × IsWrappable design map files f m
     × (bytes ≡ file_text (wrapped f m)) × (channels ≡ length m.channels)
 
--- OUT is the printed text of the wrapped tree
-abbrev pub WrapsFile : FileOf ℕ → Map → List ℕ → Option Files → Status → List ℕ → Option Files → Type 0
-WrapsFile f m out files status said left = IsSaid Done (wrapped_line (length m.channels)) status said
-    × (left ≡ holding files out (file_text (wrapped f m)))
+-- OUT was started once, and is the printed text of the wrapped tree
+abbrev pub WrapsFile : FileOf ℕ → Map → List ℕ → Option Files → (Bool → Type 0) → Status → List ℕ → Option Files → Type 0
+WrapsFile f m out files Started status said left = IsSaid Done (wrapped_line (length m.channels)) status said
+    × IsWritten files out (file_text (wrapped f m)) Started left
 
-abbrev pub Wraps : List ℕ → List ℕ → List ℕ → Option Files → (List ℕ → Type 0) → Status → List ℕ → Option Files → Type 0
-Wraps design map out files ReadFailed status said left =
-    (IsUnwritten design map files ReadFailed status said × (left ≡ files))
-    ⊎ ((f : FileOf ℕ) × (m : Map) × IsWrappable design map files f m × WrapsFile f m out files status said left)
+abbrev pub Wraps : List ℕ → List ℕ → List ℕ → Option Files → (List ℕ → Type 0) → (Bool → Type 0) → Status → List ℕ → Option Files
+    → Type 0
+Wraps design map out files ReadFailed Started status said left =
+    (IsUnwritten design map files ReadFailed status said × IsKept files Started left)
+    ⊎ ((f : FileOf ℕ) × (m : Map) × IsWrappable design map files f m × WrapsFile f m out files Started status said left)
 
 -- ---- writing OUT was cut off
 
-abbrev pub CutsWrap : FileOf ℕ → Map → List ℕ → Option Files → Type 0 → Option Files → Type 0
-CutsWrap f m out files Unstarted left = IsCutOff files out (file_text (wrapped f m)) Unstarted left
+abbrev pub CutsWrap : FileOf ℕ → Map → List ℕ → Option Files → (Bool → Type 0) → Option Files → Type 0
+CutsWrap f m out files Started left = IsCutOff files out (file_text (wrapped f m)) Started left
 
-abbrev pub StopsWrapping : List ℕ → List ℕ → List ℕ → Option Files → Type 0 → Option Files → Type 0
-StopsWrapping design map out files Unstarted left =
-    (f : FileOf ℕ) × (m : Map) × IsWrappable design map files f m × CutsWrap f m out files Unstarted left
+abbrev pub StopsWrapping : List ℕ → List ℕ → List ℕ → Option Files → (Bool → Type 0) → Option Files → Type 0
+StopsWrapping design map out files Started left =
+    (f : FileOf ℕ) × (m : Map) × IsWrappable design map files f m × CutsWrap f m out files Started left

@@ -1,9 +1,9 @@
 //! The command `wrap`.
 
-ghost use Rattle.std.specs.Prelude.{◌≡◌, ◌≤◌, Ok, IfOk, IfErr, length};
+ghost use Rattle.std.specs.Prelude.{◌≡◌, ◌≤◌, true, Ok, IfOk, IfErr, length};
 ghost use Rattle.vidi_bench.specs.vidi_io.Cause.{Rose};
-ghost use Rattle.vidi_bench.specs.vidi_io.Shelf.{Later, holding};
-ghost use Rattle.vidi_bench.specs.vidi_io.Writing.{IsCutOff};
+ghost use Rattle.vidi_bench.specs.vidi_io.Shelf.{HasStarted, Later, holding};
+ghost use Rattle.vidi_bench.specs.vidi_io.Writing.{IsCutOff, IsKept};
 ghost use Rattle.vlog_tree.specs.Plain.{plain};
 ghost use Rattle.shim_gen.specs.shim_trees.Laws.{IsMapIn};
 ghost use Rattle.vidi_bench.specs.AnswerText.{text_of};
@@ -42,9 +42,10 @@ pub fn wrap<S: Shelf>(
     shelf: &mut S,
 ) -> Result<Answer, Ended>
     ensures owed { Owes (Wraps design.now map.now out.now (S.files shelf.old)
-        (λ name. Rose (S.read_faults shelf.old name) (S.read_faults shelf.new name)))
-        (StopsWrapping design.now map.now out.now (S.files shelf.old) (S.starts shelf.new ≡ S.starts shelf.old))
-        (Rose (S.write_faults shelf.old) (S.write_faults shelf.new)) (S.files shelf.old) (S.files shelf.new) result }
+        (λ name. Rose (S.read_faults shelf.old name) (S.read_faults shelf.new name)) (HasStarted (S.starts shelf.old) (S.starts shelf.new)))
+        (StopsWrapping design.now map.now out.now (S.files shelf.old) (HasStarted (S.starts shelf.old) (S.starts shelf.new)))
+        (Rose (S.write_faults shelf.old) (S.write_faults shelf.new))
+        (IsKept (S.files shelf.old) (HasStarted (S.starts shelf.old) (S.starts shelf.new))) (S.files shelf.new) result }
     ensures counts { Later (S.read_faults shelf.old) (S.read_faults shelf.new) (S.write_faults shelf.old) (S.write_faults shelf.new) }
 {
     let plan = plan_wrap(alloc, design, map, shelf)?;
@@ -113,8 +114,10 @@ fn written<S: Shelf>(
 ) -> Result<Answer, Ended>
     ensures done { IfOk result (λ a. IsSaid Status.Done (said.wrapped_line plan.channels) a.status (text_of a.text)) }
     ensures files { IfOk result (λ a. S.files shelf.new ≡ holding (S.files shelf.old) out.now plan.text) }
-    ensures stopped { IfErr result (IsStopped (IsCutOff (S.files shelf.old) out.now plan.text (S.starts shelf.new ≡ S.starts shelf.old))
-        (Rose (S.write_faults shelf.old) (S.write_faults shelf.new)) (S.files shelf.old) (S.files shelf.new)) }
+    ensures started { IfOk result (λ a. HasStarted (S.starts shelf.old) (S.starts shelf.new) true) }
+    ensures stopped { IfErr result (IsStopped (IsCutOff (S.files shelf.old) out.now plan.text
+        (HasStarted (S.starts shelf.old) (S.starts shelf.new))) (Rose (S.write_faults shelf.old) (S.write_faults shelf.new))
+        (IsKept (S.files shelf.old) (HasStarted (S.starts shelf.old) (S.starts shelf.new))) (S.files shelf.new)) }
     ensures counts { Later (S.read_faults shelf.old) (S.read_faults shelf.new) (S.write_faults shelf.old) (S.write_faults shelf.new) }
 {
     let answer = wrapped(alloc, plan.channels)?;

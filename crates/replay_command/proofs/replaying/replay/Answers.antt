@@ -1,5 +1,8 @@
-use Rattle.std.proofs.Common.{◌≡◌, ℕ, List, inl, ◌∙◌}
+use Rattle.std.proofs.Common.{ℕ, List, inl}
 use Rattle.trace_commands.specs.vidi_io.Cause.{Rose}
+use Rattle.trace_commands.specs.vidi_io.Shelf.{HasStarted}
+use Rattle.trace_commands.specs.vidi_io.Writing.{IsKept}
+use Rattle.trace_commands.proofs.vidi_io_lemmas.Cut.{started-since}
 use Rattle.replay_command.specs.Replays.{IsUnreplayed, Replays, StopsReplaying}
 use Rattle.trace_commands.proofs.vidi_bench_lemmas.Chain.{passed-owed, rose-since}
 use Rattle.replay_command.proofs.Replayed.{replayed-owed}
@@ -14,11 +17,12 @@ returns-in_err-plan-clause-owed g c =
     let map = c.args.map.now in
     let trace = c.args.trace.now in
     let out = c.args.out.now in
-    passed-owed (IsUnreplayed design map trace files F) (Replays design map trace c.args.cycles out files F)
-    (StopsReplaying design map trace c.args.cycles out files (S.starts c.plan_replay.new.shelf ≡ S.starts c.args.shelf.now))
-    (Rose (S.write_faults c.args.shelf.now) (S.write_faults c.plan_replay.new.shelf)) files (S.files c.plan_replay.new.shelf)
-    c.in_err-plan.field-0.0 c.from_residual.result c.from_residual.ensures.1 c.plan_replay.ensures.files
-    (λ a x is. inl (is, c.plan_replay.ensures.files)) c.in_err-plan.ensures.refused
+    let P = HasStarted (S.starts c.args.shelf.now) (S.starts c.plan_replay.new.shelf) in
+    let kept : IsKept files P (S.files c.plan_replay.new.shelf) = (c.plan_replay.ensures.files, c.plan_replay.ensures.starts) in
+    passed-owed (IsUnreplayed design map trace files F) (Replays design map trace c.args.cycles out files F P)
+    (StopsReplaying design map trace c.args.cycles out files P)
+    (Rose (S.write_faults c.args.shelf.now) (S.write_faults c.plan_replay.new.shelf)) (IsKept files P) (S.files c.plan_replay.new.shelf)
+    c.in_err-plan.field-0.0 c.from_residual.result c.from_residual.ensures.1 kept (λ a x is. inl (is, kept)) c.in_err-plan.ensures.refused
 
 pub returns-clause-owed : goal.returns-clause-owed
 returns-clause-owed g c =
@@ -31,7 +35,10 @@ returns-clause-owed g c =
     let plan = c.in_ok-plan.plan in
     replayed-owed c.args.design.now c.args.map.now c.args.trace.now c.args.cycles c.args.out.now files
     (S.files c.plan_replay.new.shelf) (S.files c.replayed.new.shelf) F plan.device plan.trace (Rose middle now) (Rose old now)
-    (S.starts c.replayed.new.shelf ≡ S.starts c.plan_replay.new.shelf) (S.starts c.replayed.new.shelf ≡ S.starts c.args.shelf.now)
+    (HasStarted (S.starts c.plan_replay.new.shelf) (S.starts c.replayed.new.shelf))
+    (HasStarted (S.starts c.args.shelf.now) (S.starts c.replayed.new.shelf))
     c.replayed.result c.plan_replay.ensures.files c.in_ok-plan.ensures.planned
-    (λ rose. rose-since old middle now c.plan_replay.ensures.counts.writes rose) (λ same. same ∙ c.plan_replay.ensures.starts)
+    (λ rose. rose-since old middle now c.plan_replay.ensures.counts.writes rose)
+    (λ once. started-since (S.starts c.args.shelf.now) (S.starts c.plan_replay.new.shelf) (S.starts c.replayed.new.shelf) once
+    c.plan_replay.ensures.starts)
     c.replayed.ensures.done c.replayed.ensures.stopped

@@ -1,5 +1,8 @@
-use Rattle.std.proofs.Common.{◌≡◌, ℕ, List, inl, ◌∙◌}
+use Rattle.std.proofs.Common.{ℕ, List, inl}
 use Rattle.vidi_recorder.specs.vidi_io.Cause.{Rose}
+use Rattle.vidi_recorder.specs.vidi_io.Shelf.{HasStarted}
+use Rattle.vidi_recorder.specs.vidi_io.Writing.{IsKept}
+use Rattle.vidi_recorder.proofs.vidi_io_lemmas.Cut.{started-since}
 use Rattle.run_commands.specs.Records.{IsUnrecorded, Records, StopsRecording}
 use Rattle.vidi_bench.proofs.Chain.{passed-owed, rose-since}
 use Rattle.run_commands.proofs.Recorded.{recorded-owed}
@@ -15,11 +18,13 @@ returns-in_err-planned-clause-owed g c =
     let script = c.args.script.now in
     let stalls = c.args.stalls.now in
     let trace = c.args.trace.now in
-    passed-owed (IsUnrecorded design map script stalls files F) (Records design map script stalls trace files F)
-    (StopsRecording design map script stalls trace files (S.starts c.plan_recording.new.shelf ≡ S.starts c.args.shelf.now))
-    (Rose (S.write_faults c.args.shelf.now) (S.write_faults c.plan_recording.new.shelf)) files (S.files c.plan_recording.new.shelf)
-    c.in_err-planned.field-0.0 c.from_residual.result c.from_residual.ensures.1 c.plan_recording.ensures.files
-    (λ a x is. inl (is, c.plan_recording.ensures.files)) c.in_err-planned.ensures.refused
+    let P = HasStarted (S.starts c.args.shelf.now) (S.starts c.plan_recording.new.shelf) in
+    let kept : IsKept files P (S.files c.plan_recording.new.shelf) = (c.plan_recording.ensures.files, c.plan_recording.ensures.starts) in
+    passed-owed (IsUnrecorded design map script stalls files F) (Records design map script stalls trace files F P)
+    (StopsRecording design map script stalls trace files P)
+    (Rose (S.write_faults c.args.shelf.now) (S.write_faults c.plan_recording.new.shelf)) (IsKept files P)
+    (S.files c.plan_recording.new.shelf) c.in_err-planned.field-0.0 c.from_residual.result c.from_residual.ensures.1 kept
+    (λ a x is. inl (is, kept)) c.in_err-planned.ensures.refused
 
 pub returns-clause-owed : goal.returns-clause-owed
 returns-clause-owed g c =
@@ -32,7 +37,10 @@ returns-clause-owed g c =
     let planned = c.in_ok-planned.planned in
     recorded-owed c.args.design.now c.args.map.now c.args.script.now c.args.stalls.now c.args.trace.now files
     (S.files c.plan_recording.new.shelf) (S.files c.recorded.new.shelf) F planned.bench planned.plan (Rose middle now) (Rose old now)
-    (S.starts c.recorded.new.shelf ≡ S.starts c.plan_recording.new.shelf) (S.starts c.recorded.new.shelf ≡ S.starts c.args.shelf.now)
+    (HasStarted (S.starts c.plan_recording.new.shelf) (S.starts c.recorded.new.shelf))
+    (HasStarted (S.starts c.args.shelf.now) (S.starts c.recorded.new.shelf))
     c.recorded.result c.plan_recording.ensures.files c.in_ok-planned.ensures.planned
-    (λ rose. rose-since old middle now c.plan_recording.ensures.counts.writes rose) (λ same. same ∙ c.plan_recording.ensures.starts)
+    (λ rose. rose-since old middle now c.plan_recording.ensures.counts.writes rose)
+    (λ once. started-since (S.starts c.args.shelf.now) (S.starts c.plan_recording.new.shelf) (S.starts c.recorded.new.shelf) once
+    c.plan_recording.ensures.starts)
     c.recorded.ensures.done c.recorded.ensures.stopped

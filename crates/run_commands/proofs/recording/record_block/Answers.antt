@@ -1,6 +1,7 @@
-use Rattle.std.proofs.Common.{◌≡◌, ℕ, None}
+use Rattle.std.proofs.Common.{ℕ, None}
 use Rattle.bench_run.specs.env_script.declared.script.Script.{Script}
 use Rattle.bench_run.specs.env_script.ScriptOffer.{script_offer}
+use Rattle.vidi_recorder.specs.vidi_io.Shelf.{HasStarted}
 use Rattle.vidi_recorder.specs.Course.{course}
 use Rattle.run_commands.specs.Recorded.{FileEnds, FileFails}
 use Rattle.run_commands.proofs.Filed.{if-ends, if-fails}
@@ -13,7 +14,8 @@ returns-clause-ended g c =
     if-ends c.record_file.result c.record_file.ensures.ended (λ o ends.
     at-these
     (λ (s : Script) (n : ℕ). FileEnds (course d c.args.map.now (script_offer s) c.args.plan.now n)
-    (g.S.Shelf.files c.args.shelf.now) c.args.trace.now (g.S.Shelf.files c.record_file.new.shelf) o)
+    (g.S.Shelf.files c.args.shelf.now) c.args.trace.now (HasStarted (g.S.Shelf.starts c.args.shelf.now) (g.S.Shelf.starts c.record_file.new.shelf))
+    (g.S.Shelf.files c.record_file.new.shelf) o)
     c.in_ok-env.env.script.now c.args.script.now c.cycles.result c.args.script.now.cycles
     c.in_ok-env.ensures.plan c.cycles.ensures
     (ends d _ None c.in_ok-shell.ensures.runs))
@@ -24,7 +26,7 @@ returns-clause-failed g c =
     if-fails c.record_file.result c.record_file.ensures.failed (λ e is fails.
     at-these
     (λ (s : Script) (n : ℕ). FileFails (course d c.args.map.now (script_offer s) c.args.plan.now n)
-    (g.S.Shelf.files c.args.shelf.now) c.args.trace.now (g.S.Shelf.starts c.record_file.new.shelf ≡ g.S.Shelf.starts c.args.shelf.now)
+    (g.S.Shelf.files c.args.shelf.now) c.args.trace.now (HasStarted (g.S.Shelf.starts c.args.shelf.now) (g.S.Shelf.starts c.record_file.new.shelf))
     (g.S.Shelf.files c.record_file.new.shelf) e)
     c.in_ok-env.env.script.now c.args.script.now c.cycles.result c.args.script.now.cycles
     c.in_ok-env.ensures.plan c.cycles.ensures

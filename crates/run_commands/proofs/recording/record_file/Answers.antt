@@ -21,8 +21,8 @@ returns-clause-ended g c =
     ends-in-file (course d c.args.map.now (g.E.Env.offer (g.E.Env.plan c.args.env.now)) c.args.plan.now c.args.cycles)
     (g.S.Shell.runs c.record_run.new.shell) (g.E.Env.stands_for c.record_run.new.env) sink.started made.started files
     (F.files sink.shelf.now) (F.files made.shelf.now) _ to
-    sink.name.now made.name.now (F.read_faults sink.shelf.now) before (F.starts sink.shelf.now) first o c.new-sink.ensures.fresh was c.new-sink.ensures.name
-    (ap F.files (c.shelf-1.given.1 cc)) over (ends d s row runs))
+    sink.name.now made.name.now (F.read_faults sink.shelf.now) before (F.starts sink.shelf.now) first _ o c.new-sink.ensures.fresh was
+    c.new-sink.ensures.name (ap F.files (c.shelf-1.given.1 cc)) (ap F.starts (c.shelf-1.given.1 cc)) over (ends d s row runs))
 
 pub returns-clause-failed : goal.returns-clause-failed
 returns-clause-failed g c =
@@ -44,7 +44,10 @@ returns-clause-failed g c =
     (F.files sink.shelf.now) (F.files made.shelf.now) _ to
     sink.name.now made.name.now (F.read_faults sink.shelf.now) before (F.starts sink.shelf.now) first _ e c.new-sink.ensures.fresh was
     c.new-sink.ensures.name (ap F.files (c.shelf-1.given.1 cc)) (ap F.starts (c.shelf-1.given.1 cc)) over (fails d s row runs)
-    (λ memory. ap (λ k. F.files k.shelf.now) (c.record_run.ensures.memory (is ∙ ap Err memory)).2 ∙ was) lawful)
+    (λ memory. (
+      ap (λ k. F.files k.shelf.now) (c.record_run.ensures.memory (is ∙ ap Err memory)).2 ∙ was,
+      ap (λ k. F.starts k.shelf.now) (c.record_run.ensures.memory (is ∙ ap Err memory)).2 ∙ ap F.starts c.new-sink.ensures.shelf,
+    )) lawful)
 
 pub returns-clause-counts : goal.returns-clause-counts
 returns-clause-counts g c =

@@ -1,5 +1,8 @@
-use Rattle.std.proofs.Common.{◌≡◌, ℕ, List, Ok, inl, inr, ◌∙◌}
+use Rattle.std.proofs.Common.{ℕ, List, Ok, inl, inr}
 use Rattle.vidi_bench.specs.vidi_io.Cause.{Rose}
+use Rattle.vidi_bench.specs.vidi_io.Shelf.{HasStarted}
+use Rattle.vidi_bench.specs.vidi_io.Writing.{IsKept}
+use Rattle.vidi_bench.proofs.vidi_io_lemmas.Cut.{started-since}
 use Rattle.vidi_bench.specs.report_text.declared.reason.Word.TheVariants as words
 use Rattle.trace_code.specs.Salvage.{SalvagesFront}
 use Rattle.vidi_bench.specs.Ended.{EndsWith}
@@ -16,10 +19,12 @@ returns-in_err-file-clause-owed g c =
     let F = λ (name : List ℕ). Rose (S.read_faults c.args.shelf.now name) (S.read_faults c.read_file.new.shelf name) in
     let trace = c.args.trace.now in
     let out = c.args.out.now in
-    passed-owed (IsUnread trace_limit words.Trace trace files F) (Saves trace out files F) (StopsSaving trace out files (S.starts c.read_file.new.shelf ≡ S.starts c.args.shelf.now))
-    (Rose (S.write_faults c.args.shelf.now) (S.write_faults c.read_file.new.shelf)) files (S.files c.read_file.new.shelf)
-    c.in_err-file.field-0.0 c.from_residual.result c.from_residual.ensures.1 c.read_file.ensures.files
-    (λ a x is. inl (inl is, c.read_file.ensures.files)) c.in_err-file.ensures.refused
+    let P = HasStarted (S.starts c.args.shelf.now) (S.starts c.read_file.new.shelf) in
+    let kept : IsKept files P (S.files c.read_file.new.shelf) = (c.read_file.ensures.files, c.read_file.ensures.starts) in
+    passed-owed (IsUnread trace_limit words.Trace trace files F) (Saves trace out files F P) (StopsSaving trace out files P)
+    (Rose (S.write_faults c.args.shelf.now) (S.write_faults c.read_file.new.shelf)) (IsKept files P) (S.files c.read_file.new.shelf)
+    c.in_err-file.field-0.0 c.from_residual.result c.from_residual.ensures.1 kept (λ a x is. inl (inl is, kept))
+    c.in_err-file.ensures.refused
 
 pub returns-in_err-whole-clause-owed : goal.returns-in_err-whole-clause-owed
 returns-in_err-whole-clause-owed g c =
@@ -31,10 +36,12 @@ returns-in_err-whole-clause-owed g c =
     let file = c.in_ok-file.file in
     let e = c.in_err-whole.field-0.0 in
     let refused : EndsWith (IsHeaderless file) e = rw c.as_slice.ensures at c.in_err-whole.ensures.refused in
-    passed-owed (IsHeaderless file) (Saves trace out files F) (StopsSaving trace out files (S.starts c.read_file.new.shelf ≡ S.starts c.args.shelf.now))
-    (Rose (S.write_faults c.args.shelf.now) (S.write_faults c.read_file.new.shelf)) files (S.files c.read_file.new.shelf)
-    e c.from_residual-in_err-whole.result c.from_residual-in_err-whole.ensures.1 c.read_file.ensures.files
-    (λ a x is. inl (inr (file, c.in_ok-file.ensures.read, is), c.read_file.ensures.files)) refused
+    let P = HasStarted (S.starts c.args.shelf.now) (S.starts c.read_file.new.shelf) in
+    let kept : IsKept files P (S.files c.read_file.new.shelf) = (c.read_file.ensures.files, c.read_file.ensures.starts) in
+    passed-owed (IsHeaderless file) (Saves trace out files F P) (StopsSaving trace out files P)
+    (Rose (S.write_faults c.args.shelf.now) (S.write_faults c.read_file.new.shelf)) (IsKept files P) (S.files c.read_file.new.shelf)
+    e c.from_residual-in_err-whole.result c.from_residual-in_err-whole.ensures.1 kept
+    (λ a x is. inl (inr (file, c.in_ok-file.ensures.read, is), kept)) refused
 
 pub returns-clause-owed : goal.returns-clause-owed
 returns-clause-owed g c =
@@ -47,7 +54,10 @@ returns-clause-owed g c =
     let whole : SalvagesFront c.in_ok-file.file (Ok c.in_ok-whole.whole) = rw c.as_slice.ensures at c.in_ok-whole.ensures.whole in
     saved-owed c.args.trace.now c.args.out.now files (S.files c.read_file.new.shelf) (S.files c.saved.new.shelf) F c.in_ok-file.file
     c.in_ok-whole.whole (Rose middle now) (Rose old now)
-    (S.starts c.saved.new.shelf ≡ S.starts c.read_file.new.shelf) (S.starts c.saved.new.shelf ≡ S.starts c.args.shelf.now)
+    (HasStarted (S.starts c.read_file.new.shelf) (S.starts c.saved.new.shelf))
+    (HasStarted (S.starts c.args.shelf.now) (S.starts c.saved.new.shelf))
     c.saved.result c.in_ok-file.ensures.read whole c.read_file.ensures.files
-    (λ rose. rose-since old middle now c.read_file.ensures.counts.writes rose) (λ same. same ∙ c.read_file.ensures.starts)
-    c.saved.ensures.done c.saved.ensures.files c.saved.ensures.stopped
+    (λ rose. rose-since old middle now c.read_file.ensures.counts.writes rose)
+    (λ once. started-since (S.starts c.args.shelf.now) (S.starts c.read_file.new.shelf) (S.starts c.saved.new.shelf) once
+    c.read_file.ensures.starts)
+    c.saved.ensures.done c.saved.ensures.files c.saved.ensures.started c.saved.ensures.stopped

@@ -1,5 +1,8 @@
-use Rattle.std.proofs.Common.{◌≡◌, ℕ, List, inl, ◌∙◌}
+use Rattle.std.proofs.Common.{ℕ, List, inl}
 use Rattle.vidi_bench.specs.vidi_io.Cause.{Rose}
+use Rattle.vidi_bench.specs.vidi_io.Shelf.{HasStarted}
+use Rattle.vidi_bench.specs.vidi_io.Writing.{IsKept}
+use Rattle.vidi_bench.proofs.vidi_io_lemmas.Cut.{started-since}
 use Rattle.wrap_command.specs.Wraps.{IsUnwritten, StopsWrapping, Wraps}
 use Rattle.vidi_bench.proofs.Chain.{passed-owed, rose-since}
 use Rattle.wrap_command.proofs.Written.{written-owed}
@@ -13,10 +16,11 @@ returns-in_err-plan-clause-owed g c =
     let design = c.args.design.now in
     let map = c.args.map.now in
     let out = c.args.out.now in
-    passed-owed (IsUnwritten design map files F) (Wraps design map out files F) (StopsWrapping design map out files (S.starts c.plan_wrap.new.shelf ≡ S.starts c.args.shelf.now))
-    (Rose (S.write_faults c.args.shelf.now) (S.write_faults c.plan_wrap.new.shelf)) files (S.files c.plan_wrap.new.shelf)
-    c.in_err-plan.field-0.0 c.from_residual.result c.from_residual.ensures.1 c.plan_wrap.ensures.files
-    (λ a x is. inl (is, c.plan_wrap.ensures.files)) c.in_err-plan.ensures.refused
+    let P = HasStarted (S.starts c.args.shelf.now) (S.starts c.plan_wrap.new.shelf) in
+    let kept : IsKept files P (S.files c.plan_wrap.new.shelf) = (c.plan_wrap.ensures.files, c.plan_wrap.ensures.starts) in
+    passed-owed (IsUnwritten design map files F) (Wraps design map out files F P) (StopsWrapping design map out files P)
+    (Rose (S.write_faults c.args.shelf.now) (S.write_faults c.plan_wrap.new.shelf)) (IsKept files P) (S.files c.plan_wrap.new.shelf)
+    c.in_err-plan.field-0.0 c.from_residual.result c.from_residual.ensures.1 kept (λ a x is. inl (is, kept)) c.in_err-plan.ensures.refused
 
 pub returns-clause-owed : goal.returns-clause-owed
 returns-clause-owed g c =
@@ -28,7 +32,10 @@ returns-clause-owed g c =
     let now = S.write_faults c.written.new.shelf in
     written-owed c.args.design.now c.args.map.now c.args.out.now files (S.files c.plan_wrap.new.shelf) (S.files c.written.new.shelf) F
     c.in_ok-plan.plan (Rose middle now) (Rose old now)
-    (S.starts c.written.new.shelf ≡ S.starts c.plan_wrap.new.shelf) (S.starts c.written.new.shelf ≡ S.starts c.args.shelf.now)
+    (HasStarted (S.starts c.plan_wrap.new.shelf) (S.starts c.written.new.shelf))
+    (HasStarted (S.starts c.args.shelf.now) (S.starts c.written.new.shelf))
     c.written.result c.plan_wrap.ensures.files c.in_ok-plan.ensures.planned
-    (λ rose. rose-since old middle now c.plan_wrap.ensures.counts.writes rose) (λ same. same ∙ c.plan_wrap.ensures.starts)
-    c.written.ensures.done c.written.ensures.files c.written.ensures.stopped
+    (λ rose. rose-since old middle now c.plan_wrap.ensures.counts.writes rose)
+    (λ once. started-since (S.starts c.args.shelf.now) (S.starts c.plan_wrap.new.shelf) (S.starts c.written.new.shelf) once
+    c.plan_wrap.ensures.starts)
+    c.written.ensures.done c.written.ensures.files c.written.ensures.started c.written.ensures.stopped

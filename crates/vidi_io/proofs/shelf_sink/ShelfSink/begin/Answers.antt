@@ -28,6 +28,7 @@ returns-clause-frame g c f over =
     let old = c.args.self.now in
     over-started (S.files old.shelf.now) (S.files c.start.new.self) old.name.now (S.read_faults old.shelf.now)
     (S.read_faults c.start.new.self) (S.starts old.shelf.now) (S.starts c.start.new.self) f c.in_ok-start.ensures.ok
+    c.in_ok-start.ensures.started
     c.in_ok-start.ensures.counts.reads
     (subst (λ (b : Bool). IsOver b (S.files old.shelf.now) old.name.now (S.read_faults old.shelf.now) (S.starts old.shelf.now) f)
     c.if-self.false over)

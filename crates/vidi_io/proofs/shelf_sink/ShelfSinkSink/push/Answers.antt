@@ -16,5 +16,5 @@ returns-clause-frame g c f over =
     over-pushed c.begin.new.self.started c.append.result (g.S.Shelf.files c.begin.new.self.shelf.now) (g.S.Shelf.files c.append.new.self)
     c.begin.new.self.name.now c.args.piece.now (g.S.Shelf.read_faults c.begin.new.self.shelf.now)
     (g.S.Shelf.read_faults c.append.new.self) (g.S.Shelf.starts c.begin.new.self.shelf.now) (g.S.Shelf.starts c.append.new.self) f
-    c.in_ok-begin.ensures.started c.append.ensures.ok c.append.ensures.err
+    c.in_ok-begin.ensures.started c.append.ensures.ok c.append.ensures.err c.append.ensures.starts
     c.append.ensures.counts.reads (c.in_ok-begin.ensures.frame f over)
