@@ -1,4 +1,3 @@
-#!/usr/bin/env python3
 """contracts [--all | --crates NAME,..] [--no-paths] [--definitions] CHECKOUT: the public contracts of a checkout, one fact a line, sorted.
 
 A line is CRATE::ITEM and one fact of it: the signature, a clause, a ghost of a trait or a model. Each name that a `ghost use` or a `use` brings in is
@@ -403,7 +402,3 @@ def main(words=None):
             lines.update(it.partition('::')[2] or it if args.no_paths and it.startswith(f'{crate}::') else it for it in found)
     print('\n'.join(sorted(lines)))
     return 2 if missing and args.crates else 0
-
-
-if __name__ == '__main__':
-    sys.exit(main())
