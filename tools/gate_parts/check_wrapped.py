@@ -551,11 +551,11 @@ def read_by_verilator(case, listed, seen):
 
 def page_in_verilator(vidi):
     """The commands of docs/SHIMS.md for Verilator print what those for Icarus print, but for the line of $finish."""
-    section = tool_kit.text_of(PAGE).partition("### OUT in another simulator\n")[2].partition("\n## ")[0]
+    section = tool_kit.text_of(PAGE).partition("## In another simulator\n")[2].partition("\n## ")[0]
     commands = [command[1] for block in check_pages.BLOCK.findall(section) for command in check_pages.COMMAND.finditer(block)]
     builds = re.findall(r"^(verilator --binary .*) && (\S+)$", section, re.M)
     with tempfile.TemporaryDirectory() as folder:
-        for file in ("design.v", "map"):
+        for file in ("design.v", "map", "record_bench.v", "replay_bench.v"):
             shutil.copy(os.path.join(EXAMPLES, "pass", file), folder)
         subprocess.run([vidi, "wrap", "design.v", "map", "wrapped.v"], cwd=folder, capture_output=True, check=True)
         printed = [(command, check_pages.printed(command, folder, vidi)) for command in commands]

@@ -6,7 +6,7 @@ It runs the command, reads /proc twice a second and keeps, for each process of t
 that was seen of it and of its children that ended. So the last half second of a process may be missing. Only processes below the
 command count. `rt itself` is the time of Python's processes below the command (rt's stamps, copies and bookkeeping), without that of
 their children; `no check ran` is the time by the clock in which no process of the checker was seen. Each minute, and at the end, it
-writes the table to FILE in Markdown, so that a run that is ended early has said what it saw; the lines of a crate are those of src/,
+writes the table of docs/SPEED.md to FILE, so that a run that is ended early has said what it saw; the lines of a crate are those of src/,
 specs/ and proofs/.
 """
 
@@ -74,27 +74,25 @@ def lines_of(crate):
 
 
 def table_of(seconds):
-    """The table's lines, the dearest crate first."""
+    """The table's lines, a crate each."""
     table = {}
     for (_, (crate, why)), spent in seconds.items():
         if (crate, why) == ITSELF:
             continue
         row = table.setdefault(crate, {"proof": 0.0, "tests": 0.0, "edits": 0.0})
         row[why] += spent
-    yield "| Crate | lines | proof | tests | edits | all | minutes a 1,000 lines |"
-    yield "|---|---|---|---|---|---|---|"
-    lines_all, all_all = 0, 0.0
-    for crate, row in sorted(table.items(), key=lambda x: -sum(x[1].values())):
-        lines, spent = lines_of(crate), sum(row.values())
-        lines_all, all_all = lines_all + lines, all_all + spent
-        rate = spent / 60 / max(lines, 1) * 1000
-        yield f"| {crate} | {lines} | {row['proof']:.0f} | {row['tests']:.0f} | {row['edits']:.0f} | {spent:.0f} | {rate:.1f} |"
-    yield f"| all | {lines_all} | | | | {all_all:.0f} | {all_all / 60 / max(lines_all, 1) * 1000:.1f} |"
+    yield f"{'crate':20}{'proof':>7}{'tests':>7}{'edits':>7}{'lines':>8}"
+    lines_all, totals = 0, [0.0, 0.0, 0.0]
+    for crate, row in sorted(table.items()):
+        lines, spent = lines_of(crate), [row["proof"], row["tests"], row["edits"]]
+        lines_all, totals = lines_all + lines, [one + other for one, other in zip(totals, spent)]
+        yield f"{crate:20}{''.join(f'{round(one) or str():>7}' for one in spent)}{lines:>8}"
+    yield f"{'all':20}{''.join(f'{round(one):>7}' for one in totals)}{lines_all:>8}"
 
 
 def write_table(file, seconds, begin, idle):
     itself = sum(spent for (_, named), spent in seconds.items() if named == ITSELF)
-    rows = [f"| rt itself | | | | | {itself:.0f} | |", f"| no check ran, by the clock | | | | | {idle:.0f} | |"]
+    rows = [f"rt itself: {itself:.0f}", f"no check ran, by the clock: {idle:.0f}"]
     by_clock = f"{time.time() - begin:.0f} seconds by the clock"
     file.write_text("\n".join([*table_of(seconds), *rows, by_clock]) + "\n")
 

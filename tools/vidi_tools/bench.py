@@ -9,7 +9,8 @@ before, and starts of outputs wait too, so all comes in the recorded order. By c
 recording comes again as it was. For that the trace has to say cycles, which those of version 2 do; of one of version 1 it is played with the
 script that it was made by, or that `capture` made.
 
-BENCH.v has the module vidi_bench and the commands to run it; FILES are named there. It prints what `vidi dump` prints of the trace of what the
+BENCH.v has the module vidi_bench and the commands to run it; FILES are named there, and of a script Icarus is asked on them how wide the contents
+are. It prints what `vidi dump` prints of the trace of what the
 design shows, a line that begins with # where a content isn't the recorded one, and a last line. It writes BENCH.hex, of which `vidi-tools trace`
 makes a trace, and BENCH.vcd.
 """

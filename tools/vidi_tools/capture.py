@@ -9,7 +9,8 @@ it, such as bench.dut; MAP names its ports. A cycle is a rising edge of the map'
 edge. With --each-step it is each time step: the samples of a logic analyser, which have no clock. What comes before the first reset, or
 with --from N before the reset number N, is left out; where a valid is 1 there, that is said. Refused with the time, and nothing is
 written: an x or z at a valid, a ready or the reset, a tied port that isn't at its number, a reset that comes again. A valid that is taken
-back, or a content that changes before it is taken, is said; the capture ends there. Said too: x bits of a content, which count as 0; a
+back, or a content that changes before it is taken, is said; the capture ends there, of an outward channel with the cycle in which vidi run says
+unstable. Where the other polarity of the reset would give more cycles, that is said with their number. Said too: x bits of a content, which count as 0; a
 content that isn't 0 beside a valid that is 0, where Vidi shows 0; a reset that never acts. Status 7 where --check finds a difference.
 """
 import argparse
