@@ -97,9 +97,9 @@ def wanted():
 def check_page():
     """docs/FILES.md has the same commands with the same words, and the same exit numbers."""
     page = tool_kit.text_of(os.path.join(TOP, "docs", "FILES.md"))
-    table = page.partition("\n| Command |")[2].partition("\n\n")[0]
-    calls = re.findall(r"^\| `(\w+ [A-Z ]+)` \|", table, re.M)
-    numbers = [int(number) for number in re.findall(r"^\| (\d) \|", page, re.M)]
+    section = page.partition("\n## What the commands print\n")[2].partition("\n### ")[0]
+    calls = re.findall(r"^- `(\w+ [A-Z ]+)`: ", section, re.M)
+    numbers = [int(number) for number in re.findall(r"^- \*\*(\d)\*\*, ", section, re.M)]
     if calls != [f"{one.name} {words_of(one)}" for one in commands.VIDI] or numbers != [number for number, _ in commands.STATUS]:
         raise Problem("docs/FILES.md has other commands or exit numbers than vidi_tools/commands.py")
 

@@ -206,7 +206,7 @@ def tried(options, command, found, seed):
     draw = random.Random(f"{seed} {command}")
     for at in range(options.count):
         with tempfile.TemporaryDirectory() as folder:
-            one = Tried(options.vidi, command, draw.choice(found), draw)
+            one = Tried(tool_kit.wanted_program(), command, draw.choice(found), draw)
             fault = one.run(folder)
             if fault:
                 wrong.append(f"{command} {at}: {fault}")
@@ -227,9 +227,9 @@ def main():
     parser.add_argument("--only", choices=COMMANDS, metavar="COMMAND", help="this command alone")
     parser.add_argument("--keep", metavar="FOLDER", help="keep the files of what was wrong in FOLDER")
     options = tool_kit.parse_options(parser)
-    options.vidi, faults = tool_kit.wanted_program(), 0
+    faults = 0
     with tempfile.TemporaryDirectory() as folder:
-        found = bases(options.vidi, folder)
+        found = bases(tool_kit.wanted_program(), folder)
     for command in [options.only] if options.only else COMMANDS:
         ends, longest, wrong = tried(options, command, found, options.seed)
         faults += len(wrong)

@@ -2,9 +2,9 @@
 
     gate promises [PAGE]
 
-In the column Definition a file of specs/ has to be there, and to declare each name behind it; in the column Clause a function of one of the
-row's crates has to have each `ensures` that is named, or one at all where none is. Of `TYPE`'s `TRAIT` there has to be an impl, with members of
-the names behind it, or clauses of the trait. Of a row that says (the clause) or (the toolchain) the definition isn't asked for.
+In the column Definition a file of specs/ has to be there, and to declare each name behind it; in the column Clause a function of a crate of these
+files, of vidi_commands, or of the crate that is named, has to have each `ensures` that is named, or one at all where none is. Of `TYPE`'s `TRAIT`
+there has to be an impl, with members of the names behind it, or clauses of the trait. Of a row that says (the clause) or (the toolchain) the definition isn't asked for.
 """
 import os
 import re
@@ -94,12 +94,15 @@ def clause_faults(sources, column, crates):
     if column == "every function":
         return
     for part in column.split(";"):
+        of_crate = re.search(r"` of `(\w+)`", part)
+        if of_crate and of_crate[1] not in sources.checkout.crates:
+            yield f"no crate {of_crate[1]}"
+            continue
+        part = part.replace(f" of `{of_crate[1]}`", "") if of_crate else part
         of_trait = re.fullmatch(r" ?`(\w+)`'s `(\w+)`: (.*)", part)
         if of_trait:
-            yield from impl_faults(sources, crates, of_trait[1], of_trait[2], NAME.findall(of_trait[3]))
+            yield from impl_faults(sources, [of_crate[1]] if of_crate else crates, of_trait[1], of_trait[2], NAME.findall(of_trait[3]))
             continue
-        of_crate = re.search(r"` of `(\w+)`", part)
-        part = part.replace(f" of `{of_crate[1]}`", "") if of_crate else part
         left, _, right = part.partition(": ")
         if not NAME.search(left):
             yield f"no clause in {part.strip()!r}"
@@ -136,13 +139,12 @@ def faults(top, page):
     rows = [cells for cells in (row.split(" | ") for row in ROW.findall(page)) if cells[0] != "Promise"]
     for cells in rows:
         count += 1
-        if len(cells) != 4:
+        if len(cells) != 3:
             yield count, f"{cells[0][:60]}: a row of {len(cells)} columns"
             continue
-        promise, definition, clause, named = cells
-        crates = sources.checkout.crates if named == "all" else NAME.findall(named)
-        unknown = [crate for crate in crates if crate not in sources.checkout.crates]
-        wrong = [f"no crate {crate}" for crate in unknown] or [*definition_faults(top, definition), *clause_faults(sources, clause, crates)]
+        promise, definition, clause = cells
+        crates = [crate for crate in (name.split("/")[0] for name in NAME.findall(definition) if "/" in name) if crate in sources.checkout.crates]
+        wrong = [*definition_faults(top, definition), *clause_faults(sources, clause, [*dict.fromkeys([*crates, "vidi_commands"])])]
         yield from ((count, f"{promise[:60]}: {line}") for line in wrong)
     yield count, None
 

@@ -2,6 +2,12 @@
 makes the numbers of a sample by itself, plays the registers behind the store and behind replayers by the rules of docs/FILES.md, and
 compares the two traces. It stands apart on purpose: what it has of traces, clocks and findings is its own, and not that of vidi_tools/trace_kit.py and
 gate_parts/found_rows.py.
+
+The files of number s, where x_0 = s, x_(i+1) = (x_i * 1103515245 + 12345) mod 2^31, and y_i is x_i / 65536 rounded down:
+- design: the module of examples/pass, and a module pipe with the same ports, which chains 1 + s mod 8 instances of it
+- map: that of examples/pass, with `top pipe`
+- script: `cycles N` with 100 + 8 * s; `a send V` for each of y_1 to y_s, where V is its lower 8 bits; `b take all`
+- stalls: `capacity N` with 14 + s mod 32; `drain B 1` for each of the eight numbers from y_(s+1) on, where B is 1 and its lower 3 bits
 """
 import os
 import re

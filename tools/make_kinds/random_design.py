@@ -4,7 +4,9 @@
 
 The same seed gives the same files. A design has 1 to 4 channels of both directions with 0 to 3 contents, and by chance ties, a reset, ignored
 outputs, memories, an instance, blocks without a clock, and names that the modules of `vidi wrap` have too. Outward channels mostly hold what they
-show, some not. It reads no bit or word out of range, which Icarus shows as x. With CHANNELS, 1 to 26, it has so many channels, the first with 16
+show, some not. It reads no bit or word out of range, which Icarus shows as x, and leaves out what Icarus 11 has otherwise than IEEE 1364-2005: a shift of
+or by a word of a memory, which it compiles wrongly, and an expression in an instance's connection that is narrower than the port, which it extends after
+and not before its operators; and shifts by numbers of more than 32 bits, which Verilator 5.006 refuses. With CHANNELS, 1 to 26, it has so many channels, the first with 16
 contents, and all hold what they show.
 """
 import os

@@ -115,7 +115,7 @@ def vidi_run(options, out, script, folder):
     """The lines of a run of the lowered design, by Vidi."""
     path = os.path.join(folder, "script")
     tool_kit.write(path, "".join(" ".join(words) + "\n" for words in script))
-    return tool_kit.vidi(options.vidi, "run", out, options.prove_same, path)[0]
+    return tool_kit.vidi("run", out, options.prove_same, path)[0]
 
 
 def parting(their, our):
@@ -131,7 +131,7 @@ def compared(options, plan, out):
         tool_kit.need(program)
     plan = icarus_rows.Map(plan.path)
     widths = widths_of(options.files, plan, options.define, options.param)
-    has_vidi, transfers = tool_kit.vidi_program(options.vidi) is not None, 0
+    has_vidi, transfers = tool_kit.vidi_program() is not None, 0
     for seed in range(options.seed, options.seed + options.scripts):
         script = some_script(random.Random(seed), plan, widths, options.cycles)
         their = icarus_run(options.files, plan, script, options.define, options.param)
