@@ -15,6 +15,7 @@ import sys
 import tempfile
 
 from gate_parts import check_field
+from gate_parts import check_gate
 from gate_parts import check_replays
 from gate_parts import check_said
 from gate_parts import check_stores
@@ -24,6 +25,7 @@ from vidi_tools import tool_kit
 TOOLS = tool_kit.HERE
 EXAMPLES = os.path.join(TOOLS, "..", "examples")
 CASES = os.path.join(TOOLS, "cases")
+PROGRAMS = ("vidi-tools", "gate", "make")
 FOUND = ["arbiter", "axi_ram", "axi_regs", "cpu", "crc32", "credit", "fifo", "width"]
 # Texts that can't be lowered: the name of the top, the text, and what lower says.
 REFUSED = [
@@ -61,7 +63,10 @@ class Checker:
 
     def run(self, *words, given=""):
         """What a tool or vidi prints, and its status."""
-        words = [self.vidi, *words[1:]] if words[0] == "vidi" else [os.path.join(TOOLS, "vidi-tools"), *words]
+        if words[0] == "vidi":
+            words = [self.vidi, *words[1:]]
+        else:
+            words = [os.path.join(TOOLS, word) for word in (words[:1] if words[0] in PROGRAMS else ("vidi-tools",))] + list(words[words[0] in PROGRAMS:])
         environment = {**os.environ, "VIDI": self.vidi}
         done = subprocess.run(words, cwd=self.folder, capture_output=True, text=True, input=given, env=environment)
         return done.stdout + done.stderr, done.returncode
@@ -385,7 +390,7 @@ def main():
     options = tool_kit.parse_options(parser)
     checker = Checker(tool_kit.wanted_program(), options.verilator)
     checks = (check_left_out, check_lower, check_words, check_same, check_map, check_capture, check_capture_range, check_benches, check_show,
-              check_explain, check_build, *check_field.CHECKS, *check_replays.CHECKS, *check_said.CHECKS, *check_stores.CHECKS)
+              check_explain, check_build, *check_gate.CHECKS, *check_field.CHECKS, *check_replays.CHECKS, *check_said.CHECKS, *check_stores.CHECKS)
     try:
         for check in (check for check in checks if options.only in check.__name__):
             check(checker)

@@ -1,4 +1,6 @@
-"""contracts [--all | --crates NAME,..] [--no-paths] [--definitions] CHECKOUT: the public contracts of a checkout, one fact a line, sorted.
+"""Prints the public contracts of a checkout, one fact a line, sorted.
+
+    gate contracts [--all | --crates NAME,..] [--no-paths] [--definitions] CHECKOUT
 
 A line is CRATE::ITEM and one fact of it: the signature, a clause, a ghost of a trait or a model. Each name that a `ghost use` or a `use` brings in is
 written whole, as the file that declares it has it: doors (`pub use`) are followed, so that a line stays the same where only the way to a name
@@ -382,14 +384,15 @@ class Checkout:
         return words[0] if words else line
 
 
-def main(words=None):
+def main():
+    """Prints them."""
     parser = argparse.ArgumentParser(prog='contracts', description=__doc__, formatter_class=argparse.RawDescriptionHelpFormatter)
     parser.add_argument('checkout')
     parser.add_argument('--all', action='store_true', help='every crate of the checkout')
     parser.add_argument('--crates', help='these crates, names with commas between')
     parser.add_argument('--no-paths', action='store_true', help='names without crate and file')
     parser.add_argument('--definitions', action='store_true', help='the definitions of specs/ too')
-    args = parser.parse_args(words)
+    args = parser.parse_args()
     checkout = Checkout(args.checkout, args.no_paths)
     chosen = checkout.crates if args.all else args.crates.split(',') if args.crates else SURFACE
     missing = [it for it in chosen if it not in checkout.crates]
@@ -401,4 +404,4 @@ def main(words=None):
             found = list(checkout.lines(crate)) + (list(checkout.definitions(crate)) if args.definitions else [])
             lines.update(it.partition('::')[2] or it if args.no_paths and it.startswith(f'{crate}::') else it for it in found)
     print('\n'.join(sorted(lines)))
-    return 2 if missing and args.crates else 0
+    sys.exit(2 if missing and args.crates else 0)

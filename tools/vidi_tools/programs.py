@@ -58,4 +58,9 @@ def run(program, head, listed, package, plain=(), calls_vidi=True):
         wrong = too_few(command, words[1:])
         if wrong:
             sys.exit(f"{command.name}: {wrong}; see {program} {command.name} --help")
-    tool_kit.ended(module.main)
+    try:
+        tool_kit.ended(module.main)
+    except ValueError:
+        if command.name not in plain:
+            raise
+        sys.exit(f"{command.name}: wants {command.words}, numbers where they are wanted; see {program} {command.name} --help")
