@@ -76,6 +76,17 @@ def check_contracts(checker):
     said, _ = checker.run("gate", "contracts", "--crates", "low", "--definitions", ".")
     checker.case("gate contracts --definitions", said.splitlines()[0],
                  "Rattle.low.specs.Facts.IsTurned  abbrev pub IsTurned : ℕ → Type 0 IsTurned n = n ≡ 0")
+    checker.write("crates/up/src/lib.rt", CHECKOUT["crates/up/src/lib.rt"].replace("times ≤ 3", "times ≤ 4"))
+    os.rename(os.path.join(checker.folder, "crates"), os.path.join(checker.folder, "new"))
+    os.makedirs(os.path.join(checker.folder, "after"))
+    os.rename(os.path.join(checker.folder, "new"), os.path.join(checker.folder, "after", "crates"))
+    for path, text in CHECKOUT.items():
+        os.makedirs(os.path.join(checker.folder, os.path.dirname(path)), exist_ok=True)
+        checker.write(path, text)
+    wanted = "- up::take  requires few { times ≤ 3 }\n+ up::take  requires few { times ≤ 4 }\n11 lines and 11, 2 of one alone\n"
+    checker.case("gate contracts of two checkouts", checker.run("gate", "contracts", "--all", ".", "after"), (wanted, 1))
+    checker.case("gate contracts of the same twice", checker.run("gate", "contracts", "--all", ".", "."), ("11 lines and 11, 0 of one alone\n", 0))
+    checker.refused("gate contracts of nothing", ["gate", "contracts", "nothing"], "contracts: nothing is no checkout and no commit")
     checker.case("gate contracts of no crate", checker.run("gate", "contracts", "--crates", "none", "."), ("\ncontracts: no crate none in .\n", 2))
 
 

@@ -1,19 +1,26 @@
 """Prints the public contracts of a checkout, one fact a line, sorted.
 
     gate contracts [--all | --crates NAME,..] [--no-paths] [--definitions] CHECKOUT
+    gate contracts .. CHECKOUT OTHER        the lines that one of them has alone; status 1 where there is one
+
+A CHECKOUT is a folder or a commit of this repository.
 
 A line is CRATE::ITEM and one fact of it: the signature, a clause, a ghost of a trait or a model. Each name that a `ghost use` or a `use` brings in is
 written whole, as the file that declares it has it: doors (`pub use`) are followed, so that a line stays the same where only the way to a name
-changes. Two commits are compared by diff over two outputs. `--no-paths` writes names without crate and file, for a comparison over a move of
+changes. `--no-paths` writes names without crate and file, for a comparison over a move of
 definitions from file to file; `--definitions` prints the definitions of specs/ too, each as one line. Without --all or --crates it is the crates
 of the surface. An `impl` of a trait is printed where it has clauses of its own, or says what a type is seen as.
 """
 import argparse
+import contextlib
 import functools
 import pathlib
 import re
+import subprocess
 import sys
+import tempfile
 
+TOP = pathlib.Path(__file__).resolve().parent.parent.parent
 SURFACE = ('vidi_bits vidi_io vidi_lines vlog_lex vlog_tree vlog_parse vlog_print vlog_size net_design vlog_block vlog_latch vlog_elab vlog_design '
            'net_order net_sim chan_map script_text env_script bench_run trace_model trace_code trace_v2 vec_clock room_ledger chan_monitor '
            'trace_store vidi_recorder chan_replayer replay_run trace_compare shim_gen shim_cosim report_text sample_gen vidi_commands vidi_laws').split()
@@ -384,24 +391,48 @@ class Checkout:
         return words[0] if words else line
 
 
+def checked_out(stack, word):
+    """The folder of a checkout: the word itself, or a temporary one with what a commit of this repository has."""
+    if (pathlib.Path(word) / 'crates').is_dir():
+        return word
+    folder = stack.enter_context(tempfile.TemporaryDirectory())
+    packed = subprocess.run(['git', '-C', TOP, 'archive', word, 'crates', 'crates.txt'], capture_output=True)
+    if packed.returncode:
+        sys.exit(f'contracts: {word} is no checkout and no commit')
+    subprocess.run(['tar', '-x', '-C', folder], input=packed.stdout, check=True)
+    return folder
+
+
+def lines_of(folder, args, word):
+    """The lines of a checkout, and whether a crate that was asked for is missing."""
+    checkout, lines = Checkout(folder, args.no_paths), set()
+    chosen = checkout.crates if args.all else args.crates.split(',') if args.crates else SURFACE
+    missing = [it for it in chosen if it not in checkout.crates]
+    for crate in missing:
+        print(f'contracts: no crate {crate} in {word}', file=sys.stderr)
+    for crate in chosen:
+        if crate in checkout.crates:
+            found = list(checkout.lines(crate)) + (list(checkout.definitions(crate)) if args.definitions else [])
+            lines.update(it.partition('::')[2] or it if args.no_paths and it.startswith(f'{crate}::') else it for it in found)
+    return lines, bool(missing and args.crates)
+
+
 def main():
-    """Prints them."""
-    parser = argparse.ArgumentParser(prog='contracts', description=__doc__, formatter_class=argparse.RawDescriptionHelpFormatter)
-    parser.add_argument('checkout')
+    """Prints or compares them."""
+    parser = argparse.ArgumentParser(prog='gate contracts', description=__doc__, formatter_class=argparse.RawDescriptionHelpFormatter)
+    parser.add_argument('checkout', metavar='CHECKOUT', help='a folder, or a commit of this repository')
+    parser.add_argument('other', metavar='OTHER', nargs='?', help='another one, to be compared with')
     parser.add_argument('--all', action='store_true', help='every crate of the checkout')
     parser.add_argument('--crates', help='these crates, names with commas between')
     parser.add_argument('--no-paths', action='store_true', help='names without crate and file')
     parser.add_argument('--definitions', action='store_true', help='the definitions of specs/ too')
     args = parser.parse_args()
-    checkout = Checkout(args.checkout, args.no_paths)
-    chosen = checkout.crates if args.all else args.crates.split(',') if args.crates else SURFACE
-    missing = [it for it in chosen if it not in checkout.crates]
-    for crate in missing:
-        print(f'contracts: no crate {crate} in {args.checkout}', file=sys.stderr)
-    lines = set()
-    for crate in chosen:
-        if crate in checkout.crates:
-            found = list(checkout.lines(crate)) + (list(checkout.definitions(crate)) if args.definitions else [])
-            lines.update(it.partition('::')[2] or it if args.no_paths and it.startswith(f'{crate}::') else it for it in found)
-    print('\n'.join(sorted(lines)))
-    sys.exit(2 if missing and args.crates else 0)
+    with contextlib.ExitStack() as stack:
+        before, is_missing = lines_of(checked_out(stack, args.checkout), args, args.checkout)
+        if not args.other:
+            print('\n'.join(sorted(before)))
+            sys.exit(2 if is_missing else 0)
+        after, is_missing = lines_of(checked_out(stack, args.other), args, args.other)
+    changed = sorted([(it, '-') for it in before - after] + [(it, '+') for it in after - before])
+    print(*(f'{sign} {it}' for it, sign in changed), f'{len(before)} lines and {len(after)}, {len(changed)} of one alone', sep='\n')
+    sys.exit(2 if is_missing else 1 if changed else 0)
