@@ -1,0 +1,188 @@
+"""Says where two traces part, or why a run is unstable.
+
+    explain A B                        each finding of `vidi compare A B`, with both packets, both values and the transactions round it:
+                                       the first in time, then the others by channel, then those that only come early
+    explain --run DESIGN MAP SCRIPT    of an unstable run the pin that changed, from what to what (Icarus plays the design)
+
+Status 0 where there is nothing to explain, 7 where the traces part, 5 where the run is unstable.
+"""
+import argparse
+import sys
+import tempfile
+
+from vidi_tools import tool_kit
+from vidi_tools.tool_kit import Problem
+
+AROUND = 2
+MEANINGS = {"differs": "the contents differ", "missing": "B hasn't it", "extra": "A hasn't it",
+            "early": "in B it comes before completions that A had before it"}
+
+
+class Trace:
+    """A trace as `vidi dump` tells it: the packets of each channel's transactions, and the names of channels in order."""
+
+    def __init__(self, path):
+        text, status = tool_kit.vidi("dump", path)
+        if status:
+            raise Problem(f"{path}: {text.strip() or 'vidi dump failed'}")
+        events, self.widths, self.length, _ = tool_kit.events_of(text, path)
+        self.found, self.names = tool_kit.transactions_of(events), list(self.widths)
+        self.clocks, counts = {}, {}
+        for words in (line.split() for line in text.splitlines()):
+            if "clock" in words:
+                at = counts.setdefault((words[1], words[2]), 0)
+                self.clocks[words[1], words[2], at] = [int(word) for word in words[words.index("clock") + 1:]]
+                counts[words[1], words[2]] = at + 1
+
+    def one(self, name, at):
+        """A transaction, or None."""
+        ones = self.found.get(name, [])
+        return ones[at] if at < len(ones) else None
+
+
+def numbers(content):
+    """A content in decimal and hexadecimal."""
+    return " ".join(f"{value} (0x{value:x})" for value in content) or "no content"
+
+
+def said(one):
+    """A transaction's packets and content."""
+    if one is None:
+        return "not there"
+    return f"packets {one.start} to {'-' if one.end is None else one.end}, {numbers(one.content)}"
+
+
+def difference(trace, name, one, other):
+    """Which content ports differ, in which bits."""
+    for at, (a, b) in enumerate(zip(one.content, other.content)):
+        if a != b:
+            width = trace.widths[name][1][at]
+            bits = [bit for bit in range(width) if (a ^ b) >> bit & 1]
+            yield f"  content {at}: A {a} (0x{a:x}), B {b} (0x{b:x}), bits that differ: {' '.join(map(str, bits))}"
+
+
+def waits_for(traces, kind, name, at):
+    """The channels of whose completions B had fewer before this event than A."""
+    a, b = (trace.clocks.get((kind, name, at)) for trace in traces)
+    for channel, had, has in zip(traces[0].names, a or [], b or []):
+        if has < had:
+            yield f"  completions of {channel} before it: A {had}, B {has}"
+
+
+def neighbours(traces, name, at):
+    """The transactions of this channel round a finding, of both traces side by side, and what else was in flight in A then."""
+    for near in range(max(0, at - AROUND), at + AROUND + 1):
+        ones = [trace.one(name, near) for trace in traces]
+        if any(ones):
+            yield f"  {'>' if near == at else ' '} {name} {near}: A {said(ones[0])}; B {said(ones[1])}"
+    centre = traces[0].one(name, at)
+    for other in traces[0].names if centre else []:
+        for count, one in enumerate(traces[0].found.get(other, [])):
+            last = one.end if one.end is not None else traces[0].length
+            if other != name and one.start <= (centre.end or centre.start) and last >= centre.start:
+                yield f"    in A meanwhile: {other} {count}, {said(one)}"
+
+
+def explained(traces, words):
+    """The lines that explain one finding of compare."""
+    kind, name, event, at = words[0], words[1], words[2], int(words[3])
+    yield f"{' '.join(words)}: {event} {at} of {name} (the first is 0): {MEANINGS.get(kind, kind)}"
+    ones = [trace.one(name, at) for trace in traces]
+    if kind == "differs" and all(ones):
+        yield from difference(traces[0], name, *ones)
+    if kind == "early":
+        yield from waits_for(traces, event, name, at)
+    yield from neighbours(traces, name, at)
+
+
+def when(traces, words):
+    """The packet in which a finding's event stands: that of A, or of B where A hasn't it."""
+    name, event, at = words[1], words[2], int(words[3])
+    for trace in traces:
+        one = trace.one(name, at)
+        packet = one and (one.start if event == "start" else one.end)
+        if packet is not None:
+            return packet
+    return max(trace.length for trace in traces)
+
+
+def in_order(traces, findings):
+    """The findings in the order in which they are explained, each with the line above it: the first in time, the others, the early ones."""
+    early = [words for words in findings if words[0] == "early"]
+    others = [words for words in findings if words[0] != "early"]
+    first = min(others, key=lambda words: when(traces, words), default=None)
+    rest = [words for words in others if words is not first]
+    for at, words in enumerate([first] * bool(others) + rest + early):
+        head = {0: f"first in time, in packet {when(traces, words)}:", 1: "then, by channel:"} if rest else {}
+        if early and at == len(others):
+            head = {at: "come early, which is no other content:"}
+        yield head.get(at), words
+
+
+def explain_traces(options):
+    """Explains the findings of compare, at most so many."""
+    traces = [Trace(path) for path in options.words]
+    text, status = tool_kit.vidi("compare", *options.words)
+    if status not in (0, 7):
+        raise Problem(text.strip() or "vidi compare failed")
+    findings = [line.split() for line in text.splitlines() if line not in ("diverged", "no divergence")]
+    for head, words in list(in_order(traces, findings))[:options.most]:
+        print("\n".join([head] * bool(head) + list(explained(traces, words))))
+    if len(findings) > options.most:
+        print(f"and {len(findings) - options.most} more; --most says how many are explained")
+    print(text.splitlines()[-1])
+    return status
+
+
+def unstable_pins(path, map_path, script):
+    """Plays the run in Icarus; the map, the last two rows, the channel that isn't stable, and its cycle."""
+    from vidi_tools import icarus_rows
+    plan = icarus_rows.Map(map_path)
+    with tempfile.TemporaryDirectory() as folder:
+        design = icarus_rows.Design(path, plan, folder)
+        rows, name, shown = icarus_rows.play(plan, design, icarus_rows.lines(script), icarus_rows.AllUp(design.widths))
+    return plan, shown[-2:], name, len(rows)
+
+
+def explain_run(options):
+    """Explains the end of a run."""
+    for program in ("iverilog", "vvp"):
+        tool_kit.need(program)
+    design, path, script = options.words
+    text, status = tool_kit.vidi("run", design, path, script)
+    if status not in (0, 5):
+        raise Problem(text.strip() or "vidi run failed")
+    last = text.splitlines()[-1]
+    if status == 0:
+        print(f"{last}: the run is stable")
+        return 0
+    tool_kit.Map(path)
+    plan, (before, after), name, cycle = unstable_pins(design, path, script)
+    if not last.endswith(f"unstable {name} cycle {cycle}"):
+        raise Problem(f"vidi says {last}, Icarus parts from it: unstable {name} cycle {cycle}")
+    _, _, valid, ready, ports = next(channel for channel in plan.channels if channel[0] == name)
+    print(f"{last}: {name} showed {valid} in cycle {cycle - 1}, {ready} was 0, so nothing of it may change in cycle {cycle}")
+    for port, old, new in zip((valid, *ports), (before[name][0], *before[name][2]), (after[name][0], *after[name][2])):
+        if old != new:
+            print(f"  {port} goes from {old} (0x{old:x}) to {new} (0x{new:x})")
+    found = tool_kit.transactions_of(tool_kit.events_of(text, script)[0])
+    for at, one in list(enumerate(found[name]))[-1 - AROUND:]:
+        print(f"  {name} {at}: cycles {one.start} to {'-' if one.end is None else one.end}, {numbers(one.content)}")
+    return 5
+
+
+def main():
+    """Explains traces or a run."""
+    parser = argparse.ArgumentParser(description=__doc__, formatter_class=argparse.RawDescriptionHelpFormatter)
+    parser.add_argument("--run", action="store_true", help="explain a run and not two traces")
+    parser.add_argument("--most", type=int, default=5, metavar="N", help="how many findings are explained (5)")
+    parser.add_argument("words", metavar="FILE", nargs="+", help="A B, or with --run DESIGN MAP SCRIPT")
+    options = tool_kit.parse_options(parser)
+    if len(options.words) != (3 if options.run else 2):
+        raise Problem("wants DESIGN MAP SCRIPT" if options.run else "wants two traces A B")
+    for path in options.words:
+        try:
+            open(path, "rb").close()
+        except OSError as error:
+            raise Problem(f"{path}: {error.strerror}") from error
+    sys.exit(explain_run(options) if options.run else explain_traces(options))
