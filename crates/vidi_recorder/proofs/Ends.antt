@@ -9,7 +9,7 @@ use Rattle.net_design.specs.declared.values.Values.{Values}
 use Rattle.env_script.specs.run_model.Laws.{OffersFit}
 use Rattle.env_script.specs.run_model.Played.{AreStable}
 use Rattle.room_ledger.specs.Ledger.{Ledger}
-use Rattle.chan_monitor.specs.Shell.{IsMapped}
+use Rattle.run_stage.specs.chan_monitor.Shell.{IsMapped}
 use Rattle.trace_code.specs.trace_model.declared.packet.TheConstants.{MOST_CYCLES}
 use Rattle.vidi_io.specs.Sink.{AppendsSome}
 use Rattle.vidi_recorder.specs.declared.error.Outcome.{Outcome}

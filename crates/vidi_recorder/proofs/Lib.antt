@@ -1,4 +1,3 @@
-pub mod Silent
 pub mod Lengths
 pub mod Passed
 pub mod Pushing
@@ -6,7 +5,6 @@ pub mod Runs
 pub mod Kept
 pub mod Going
 pub mod Turning
-pub mod Looking
 pub mod Short
 pub mod Ends
 pub mod Turns

@@ -11,7 +11,7 @@ mod laws;
 mod record;
 mod script_laws;
 mod steps;
-mod turn;
+mod recorder;
 
 pub use env_script;
 pub use error::{Outcome, RecordError};

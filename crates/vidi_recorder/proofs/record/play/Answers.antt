@@ -4,7 +4,7 @@ use Rattle.std.proofs.Math.Logic.{∥∥₁_map}
 use Rattle.vidi_io.proofs.vidi_bits_lemmas.Results.{on_err}
 use Rattle.circular_buffer.specs.Buffer.{Buffer}
 use Rattle.net_design.specs.declared.design.Design.{Design}
-use Rattle.chan_monitor.specs.Shell.{IsMapped, IsRunning}
+use Rattle.run_stage.specs.chan_monitor.Shell.{IsMapped, IsRunning}
 use Rattle.env_script.proofs.Lasting.{offers-fit}
 use Rattle.env_script.specs.run_model.Played.{StopsBefore}
 use Rattle.vidi_recorder.specs.Course.{course, plan_of, rule_of}

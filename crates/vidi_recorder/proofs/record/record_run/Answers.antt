@@ -3,7 +3,7 @@ use Rattle.std.proofs.lemmas.Result.{err_from_is_err_and}
 use Rattle.trace_code.specs.trace_model.declared.row.Row.{Row}
 use Rattle.net_design.specs.declared.design.Design.{Design}
 use Rattle.net_design.specs.declared.values.Values.{Values}
-use Rattle.chan_monitor.specs.Shell.{IsMapped}
+use Rattle.run_stage.specs.chan_monitor.Shell.{IsMapped}
 use Rattle.vidi_recorder.specs.declared.error.RecordError.{RecordError}
 use Rattle.vidi_recorder.specs.declared.error.RecordError.TheVariants.{WriteFault}
 use Rattle.vidi_recorder.specs.Course.{course}
