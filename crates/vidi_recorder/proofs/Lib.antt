@@ -8,5 +8,6 @@ pub mod Turning
 pub mod Short
 pub mod Ends
 pub mod Turns
+pub mod Keeping
 pub mod ScriptKept
 pub use Rattle.vidi_io.proofs as vidi_io_lemmas

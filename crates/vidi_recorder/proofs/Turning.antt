@@ -9,8 +9,8 @@ use Rattle.std.proofs.lemmas.List.{take-append-le, take_all}
 use Rattle.trace_code.specs.trace_model.declared.channel.Channel.{Channel}
 use Rattle.trace_code.specs.trace_model.declared.row.Offers.{Offers}
 use Rattle.trace_code.specs.trace_model.declared.row.Row.{Row}
-use Rattle.trace_code.specs.trace_model.Row.{flies_after, row_before, sink_valid, AreOffers, IsMarked, IsOver}
-use Rattle.trace_code.proofs.trace_model_lemmas.ContentsLemmas.{fit_prop}
+use Rattle.trace_code.specs.trace_model.Row.{all_widths, flies_after, row_before, sink_valid, AreOffers, IsMarked, IsOver}
+use Rattle.trace_code.proofs.trace_model_lemmas.ContentsLemmas.{fit-length, fit_prop}
 use Rattle.trace_code.proofs.trace_model_lemmas.CountingLemmas.{slice_get-last}
 use Rattle.net_design.specs.declared.design.Design.{Design}
 use Rattle.net_design.specs.declared.values.Values.{Values}
@@ -113,6 +113,11 @@ module _ (channels : List Channel) (current : ℕ → Offer) (given : Gated) (sa
     gates = below;
   }
 
+  pub given-long : AllFit channels current → length given.offers.contents ≡ length (all_widths channels)
+  given-long fits =
+      let are = subst (AreOffers channels) (sym same) (are-offers channels current fits) in
+      sym (fit-length (all_widths channels) given.offers.contents are.contents)
+
   pub given-ruled : (offer : List Row → ℕ → Offer) (plan : Plan) (room : Ledger) (rows : List Row) (row : Row)
       → ((c : ℕ) → current c ≡ offer rows c) → given.gates ≡ room.gates → StandsAfter (sizes_of channels) plan rows false room
       → IsGatedRow channels given row → row.fresh ≡ false → rule_under channels offer plan rows row
@@ -121,3 +126,9 @@ module _ (channels : List Channel) (current : ℕ → Offer) (given : Gated) (sa
     subst (GatesUnder channels plan rows) (sym (is.gates_are ∙ up)) stands.gates,
     unmarked,
   )
+
+pub carries-now : (channels given : List Channel) (current offered : ℕ → Offer) (row : Row) → given ≡ channels
+    → ((c : ℕ) → current c ≡ offered c) → Carries channels offered row → Carries given current row
+carries-now channels given current offered row same now is =
+    subst (λ (cs : List Channel). Carries cs current row) (sym same)
+    (subst (λ (o : ℕ → Offer). Carries channels o row) (sym (λ i c. now c i)) is)

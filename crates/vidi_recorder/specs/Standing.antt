@@ -13,6 +13,8 @@ use Rattle.net_design.specs.declared.values.Values.{Values}
 use Rattle.room_ledger.specs.Gates.{Plan}
 use Rattle.room_ledger.specs.Laws.{StandsAfter}
 use Rattle.room_ledger.specs.Ledger.{Ledger}
+use Rattle.env_script.specs.chan_map.declared.pins.Map.{Map}
+use Rattle.env_script.specs.declared.stalls.Stalls.{Stalls}
 use Rattle.env_script.specs.Offer.{Offer}
 use Rattle.env_script.specs.Offered.{offers_on}
 use Rattle.vidi_io.specs.Sink.{Frame}
@@ -73,6 +75,17 @@ pub record BreaksAt (channels : List Channel) (plan : Plan) (begun told : Option
     (rows : List Row) : Type 0 where
   pub played : stands_for rows
   pub cut : (first : Option (List ℕ)) → begun ≡ append_known first (header_bytes channels) → Cut channels plan first rows told
+
+-- what a recorder is lent: its map and plan of stalls, and the borrows of the rest
+pub record Lent : Type 0 where
+  pub map : Map
+  pub stalls : Stalls
+  pub env : GName
+  pub cells : GName
+  pub sink : GName
+
+abbrev pub lent : Map → Stalls → GName → GName → GName → Lent
+lent map stalls env cells sink = record { map = map; stalls = stalls; env = env; cells = cells; sink = sink }
 
 -- an environment of these channels, and what it becomes, which has the same plan and channels
 pub record SameEnv {E P : Type 0} (plan_in : E → P) (channels_in : E → List Channel) (channels : List Channel) (old new : E) : Type 0 where

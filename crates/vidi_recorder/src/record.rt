@@ -46,7 +46,7 @@ fn outcome(ending: Ending, packets: u32) -> Outcome
 /// Resets the shell, pushes the header and goes through the cycles of the run. The rest and the end mark aren't pushed yet.
 fn run<S: Shell, E: Env, K: Sink>(
     shell: &mut S,
-    recorder: &mut Recorder<'_, E, K>,
+    recorder: &mut Recorder<'_, '_, '_, '_, '_, E, K>,
     cycles: u32,
     rows: &mut TwoRows,
 ) -> Result<Outcome, Failed>
@@ -89,12 +89,7 @@ fn run<S: Shell, E: Env, K: Sink>(
     let cells = &mut *recorder.cells;
     shell.reset();
     recorder.sink.push(cells.header.as_slice())?;
-    offer(
-        &*recorder.env,
-        &map.channels,
-        &cells.room,
-        &mut cells.given,
-    );
+    offer(&*recorder.env, &map.channels, &cells.room, &mut cells.given);
     let ending = play(shell, recorder, map, cycles, rows)?;
     Ok(outcome(ending, recorder.cells.packets))
 }

@@ -5,7 +5,7 @@ ghost use Rattle.trace_code.specs.trace_model.Channel.{IsTable};
 ghost use Rattle.trace_code.specs.trace_model.declared.packet.TheConstants.{MOST_CYCLES};
 ghost use Rattle.vidi_io.specs.Cause.{Rose};
 ghost use Rattle.vidi_recorder.specs.Course.{plan_of, rule_under};
-ghost use Rattle.vidi_recorder.specs.Standing.{BreaksAt, SameEnv, SameSink, StandsAt};
+ghost use Rattle.vidi_recorder.specs.Standing.{BreaksAt, SameEnv, SameSink, StandsAt, lent};
 
 use crate::cells::Cells;
 use crate::steps::{give, keep, offer};
@@ -16,15 +16,16 @@ use trace_code::trace_model::Row;
 use vidi_io::{Failed, Sink};
 
 /// An environment behind gates, with a room and a store for the packets of its rows, and a sink into which they drain.
-pub(crate) struct Recorder<'a, E: Env, K: Sink> {
-    pub map: &'a Map,
-    pub stalls: &'a Stalls,
-    pub env: &'a mut E,
-    pub cells: &'a mut Cells,
-    pub sink: &'a mut K,
+#[derive(Drop)]
+pub(crate) struct Recorder<'m, 'p, 'e, 'c, 's, E: Env, K: Sink> {
+    pub map: &'m Map,
+    pub stalls: &'p Stalls,
+    pub env: &'e mut E,
+    pub cells: &'c mut Cells,
+    pub sink: &'s mut K,
 }
 
-impl<'a, E: Env, K: Sink> Player<Gated> for Recorder<'a, E, K> {
+impl<E: Env, K: Sink> Player<Gated> for Recorder<'_, '_, '_, '_, '_, E, K> {
     type Fault = Failed;
 
     ghost map = { λ s. s.map.now };
@@ -33,19 +34,19 @@ impl<'a, E: Env, K: Sink> Player<Gated> for Recorder<'a, E, K> {
 
     ghost rule = { λ s. rule_under s.map.now.channels (E.offer (E.plan s.env.now)) (plan_of s.stalls.now) };
 
-    ghost stands = { λ first now rows. (now.map.now ≡ first.map.now) × (now.stalls.now ≡ first.stalls.now)
-        × IsTable first.map.now.channels
-        × (now.env.ghost_name ≡ first.env.ghost_name) × (now.cells.ghost_name ≡ first.cells.ghost_name)
-        × (now.sink.ghost_name ≡ first.sink.ghost_name)
+    ghost stands = { λ first now rows.
+        (lent now.map.now now.stalls.now now.env.ghost_name now.cells.ghost_name now.sink.ghost_name
+        ≡ lent first.map.now first.stalls.now first.env.ghost_name first.cells.ghost_name first.sink.ghost_name) × IsTable first.map.now.channels
         × SameEnv E.plan E.channels first.map.now.channels first.env.now now.env.now
         × SameSink K.faults K.place K.has_frame first.sink.now now.sink.now
         × StandsAt first.map.now.channels (plan_of first.stalls.now) (K.told first.sink.now) (K.told now.sink.now)
         (E.stands_for now.env.now) (E.current now.env.now) now.cells.now rows };
 
-    ghost ends = { λ _ _ is. is ≡ false };
+    ghost ends = { λ _ _ over. over ≡ false };
 
-    ghost broke = { λ first now rows _. (now.env.ghost_name ≡ first.env.ghost_name) × (now.cells.ghost_name ≡ first.cells.ghost_name)
-        × (now.sink.ghost_name ≡ first.sink.ghost_name)
+    ghost broke = { λ first now rows _.
+        (lent now.map.now now.stalls.now now.env.ghost_name now.cells.ghost_name now.sink.ghost_name
+        ≡ lent first.map.now first.stalls.now first.env.ghost_name first.cells.ghost_name first.sink.ghost_name)
         × SameEnv E.plan E.channels first.map.now.channels first.env.now now.env.now
         × SameSink K.faults K.place K.has_frame first.sink.now now.sink.now
         × Rose (K.faults first.sink.now) (K.faults now.sink.now)
