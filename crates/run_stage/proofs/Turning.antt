@@ -1,6 +1,6 @@
 -- Played rows, one row longer.
 use Rattle.std.proofs.Common.{◌≡◌, ℕ, zero, suc, ◌<◌, ◌≤◌, ◌&&◌, ◌==◌, Bool, true, false, not, List, [], ◌∷◌, ◌++◌, Option}
-use Rattle.std.proofs.Common.{Some, None}
+use Rattle.std.proofs.Common.{Some, None, Result, Err, IfErr}
 use Rattle.std.proofs.Common.{length, slice_get, take, refl, ap, sym, subst, ◌∙◌, arith, ⊎_elim}
 use Rattle.std.proofs.Math.Logic.{∥∥₁_map}
 use Rattle.std.proofs.lemmas.Bool.{cases_lt, false≢true}
@@ -48,6 +48,12 @@ stable-push channels rows last row stable is none t before now b at c bad = ⊎_
     (ap (row_before rows) (sym h.0) ∙ sym (before-append rows row t (omega (arith, h.0))) ∙ b) none c
     (subst (λ (r : Row). IsUnstable channels before r c) (sym h.1) bad))
     (slice_get-push rows row now t at)
+
+-- the row is kept as the last one
+pub stable-kept : (channels : List Channel) (rows : List Row) (last row kept : Row) → kept ≡ row → AreStable channels rows
+    → IsLast (row_before rows (length rows)) last → IsLowestUnstable channels last row None → AreStable channels (rows ++ kept ∷ [])
+stable-kept channels rows last row kept e stable is none = subst (λ (r : Row). AreStable channels (rows ++ r ∷ [])) (sym e)
+    (stable-push channels rows last row stable is none)
 
 pub no-wait : (row : Row) (c : ℕ) → row.valids ≡ 0 → waits row c ≡ true → ⊥
 no-wait row c e h =
@@ -152,3 +158,15 @@ going-push ends rows row going now k l =
     (⊎_elim (λ (b : k < length rows). going k b)
     (λ (b : length rows ≤ k). subst (λ (rs : List Row). ends rs false) (sym (take_all k rows b)) now)
     (cases_lt k (length rows)))
+
+-- ---- whether the player is done
+pub ends-now : (m : Map) (rule : List Row → Row → Type 0) (ends : List Row → Bool → Type 0) (given : Map) → given ≡ m → (rows : List Row)
+    (last : Row) (r said : Bool) → r ≡ said
+    → (AreRuled given rule rows → IsLast (row_before rows (length rows)) last → ends rows r) → AreRuled m rule rows
+    → IsLast (row_before rows (length rows)) last → ends rows said
+ends-now m rule ends given same rows last r said e says ruled is = subst (ends rows) e
+    (says (subst (λ (n : Map). AreRuled n rule rows) (sym same) ruled) is)
+
+-- an answer that is this fault
+pub fault-as : {A E : Type 0} (r : Result A E) (fault : E) → ((y : E) × (r ≡ Err y) × (y ≡ fault)) → (Q : E → Type 0) → Q fault → IfErr r Q
+fault-as {A} {E} r fault (y, is, same) Q holds = subst (λ (x : Result A E). IfErr x Q) (sym is) (subst Q (sym same) holds)
