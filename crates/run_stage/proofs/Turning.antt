@@ -2,7 +2,8 @@
 use Rattle.std.proofs.Common.{◌≡◌, ℕ, zero, suc, ◌<◌, ◌≤◌, ◌&&◌, ◌==◌, Bool, true, false, not, List, [], ◌∷◌, ◌++◌, Option}
 use Rattle.std.proofs.Common.{Some, None, Result, Err, IfErr}
 use Rattle.std.proofs.Common.{length, slice_get, take, refl, ap, sym, subst, ◌∙◌, arith, ⊎_elim}
-use Rattle.std.proofs.Math.Logic.{∥∥₁_map}
+use Rattle.std.proofs.Math.Logic.{∥∥₁_elim, ∥∥₁_map}
+use Rattle.std.proofs.Props.{props}
 use Rattle.std.proofs.lemmas.Bool.{cases_lt, false≢true}
 use Rattle.std.proofs.lemmas.List.{length_push, take-append-le, take_all}
 use Rattle.std.proofs.lemmas.Nat.Bits.{bit_at-zero}
@@ -10,9 +11,10 @@ use Rattle.std.proofs.lemmas.Option.{same_Some}
 use Rattle.chan_replayer.specs.trace_model.declared.channel.Channel.{Channel}
 use Rattle.chan_replayer.specs.trace_model.declared.row.Row.{Row}
 use Rattle.chan_replayer.specs.chan_monitor.vidi_bits.Number.{has}
-use Rattle.chan_replayer.specs.trace_model.Row.{completes, row_before}
+use Rattle.chan_replayer.specs.trace_model.Row.{completes, row_before, IsMarked, IsOver}
 use Rattle.chan_replayer.specs.trace_model.Stability.{waits, IsLowestUnstable, IsUnstable, IsUnstableAt}
 use Rattle.chan_replayer.proofs.trace_model_lemmas.RowLemmas.{before-last}
+use Rattle.chan_replayer.proofs.trace_model_lemmas.ContentsLemmas.{fit_prop}
 use Rattle.chan_replayer.proofs.trace_model_lemmas.CountingLemmas.{slice_get-append_left, slice_get-last, slice_get-push}
 use Rattle.net_design.specs.declared.design.Design.{Design}
 use Rattle.net_design.specs.declared.values.Values.{Values}
@@ -137,6 +139,33 @@ stays d m rule runs then last rows on at = record {
   stable = at.stable;
   last_is = at.last_is;
 }
+
+-- ---- the last row of those that a design plays
+pub record IsLastOf (m : Map) (rule : List Row → Row → Type 0) (rows : List Row) (row : Row) : Type 0 where
+  pub over : IsOver m.channels row
+  pub marked : IsMarked (row_before rows (length rows)) row
+  pub ruled : rule rows row
+
+pub last-of : (d : Design) (m : Map) (rule : List Row → Row → Type 0) (rows : List Row) (row : Row) → IsPlayed d m rule (rows ++ row ∷ [])
+    → IsLastOf m rule rows row
+last-of d m rule rows row played =
+    let at = slice_get-last rows row in
+    let both = played.marked (length rows) row at in
+    let front : take (length rows) (rows ++ row ∷ []) ≡ rows =
+    take-append-le (length rows) rows (row ∷ []) (omega arith) ∙ take_all (length rows) rows (omega arith) in
+    record {
+      over = both.0;
+      marked = subst (λ (o : Option Row). IsMarked o row) (before-append rows row (length rows) (omega arith)) both.1;
+      ruled = subst (λ (rs : List Row). rule rs row) front (played.ruled (length rows) row at);
+    }
+
+over_prop : (channels : List Channel) (row : Row) → IsProp (IsOver channels row)
+over_prop channels row = hlevel (props, fit_prop)
+
+pub over-last : (m : Map) (rule : List Row → Row → Type 0) (rows : List Row) (row : Row) → AreRuled m rule (rows ++ row ∷ [])
+    → IsOver m.channels row
+over-last m rule rows row are = ∥∥₁_elim are.played (over_prop m.channels row)
+    (λ (x : (d : Design) × IsPlayed d m rule (rows ++ row ∷ [])). (last-of x.0 m rule rows row x.1).over)
 
 -- ---- whatever the design
 pub ruled-of : (m : Map) (rule : List Row → Row → Type 0) (runs begun : Design → Values → List Row → Type 0) (last : Row) (rows : List Row)
