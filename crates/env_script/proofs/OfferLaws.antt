@@ -20,7 +20,7 @@ use Rattle.env_script.specs.Offered.{numbers_on, offers_on, AllFit}
 
 -- ---- the numbers of a content
 
-zero-at : (n i : ℕ) → get_or (zeros n) i 0 ≡ 0
+pub zero-at : (n i : ℕ) → get_or (zeros n) i 0 ≡ 0
 zero-at zero i = refl
 zero-at (suc n) zero = refl
 zero-at (suc n) (suc i) = zero-at n i

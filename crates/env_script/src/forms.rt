@@ -5,10 +5,10 @@ ghost use Rattle.env_script.specs.Forms.{keyword_of, channel_named, numbers_of, 
 
 use crate::said::{Said, StepLine};
 use crate::used::is_word;
+use run_model::trace_model::Channel;
 use run_model::vidi_bits::{Memory, Name, Numbers};
 use run_model::vidi_lines::number;
 use std::alloc::Global;
-use run_model::trace_model::Channel;
 
 /// The word behind a channel's name.
 #[derive(Clone, Copy, PartialEq, Eq)]

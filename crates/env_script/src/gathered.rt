@@ -12,10 +12,10 @@ use crate::forms::line_of;
 use crate::lawful::{fits_numbers, made, names_channels};
 use crate::said::StepLine;
 use crate::script::{Step, StepLists, Steps};
+use run_model::trace_model::Channel;
 use run_model::vidi_bits::Memory;
 use run_model::vidi_lines::Line;
 use std::alloc::Global;
-use run_model::trace_model::Channel;
 
 /// What is gathered of the lines of a script.
 #[derive(Drop)]

@@ -12,9 +12,9 @@ use crate::lawful::between;
 use crate::script::Script;
 use crate::used::{blank_lines, number_in};
 use run_model::chan_map::Map;
+use run_model::trace_model::{Channel, MOST_CYCLES};
 use run_model::vidi_lines::{Line, each_line};
 use std::alloc::Global;
-use run_model::trace_model::{Channel, MOST_CYCLES};
 
 /// Gathers what lines say, the first having this number.
 fn gathered(

@@ -11,11 +11,11 @@ ghost use Rattle.env_script.specs.ScriptOffer.{script_offer};
 ghost use Rattle.env_script.specs.Places.{AllReadWithin, OffersAtPlaces, StandsFor, step_at, offer_at, reads_prop};
 
 use crate::env::Env;
+use crate::place::{Place, count_ends, move_on};
+use crate::script::{Script, Step};
 use run_model::chan_map::Map;
 use run_model::trace_model::{Channels, Row};
 use run_model::vidi_bits::Memory;
-use crate::place::{Place, count_ends, move_on};
-use crate::script::{Script, Step};
 use std::alloc::Global;
 
 /// The environment that plays a script: on each channel its steps one after the other.

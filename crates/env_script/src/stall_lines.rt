@@ -8,10 +8,10 @@ use crate::error::StallError;
 use crate::lawful::between;
 use crate::stalls::{Drain, Drains};
 use crate::used::{is_blank, is_word, number_in};
+use run_model::trace_model::MOST_CYCLES;
 use run_model::vidi_bits::Name;
 use run_model::vidi_lines::{Line, number};
 use std::alloc::Global;
-use run_model::trace_model::MOST_CYCLES;
 
 /// The number of a line `capacity N`, where it is 1 to 16,777,216.
 pub fn capacity_in(line: &Option<Line>) -> Option<u32>

@@ -5,12 +5,12 @@ ghost use Rattle.bench_run.specs.run_model.Building.{PortsAreNets};
 ghost use Rattle.bench_run.specs.run_model.MapOf.{IsMapOf};
 ghost use Rattle.bench_run.specs.env_script.Fits.{FitsChannels};
 
+use crate::sends::is_two_sends;
 use bench_run::chan_map::Map;
 use bench_run::env_script::{Script, ScriptEnv, read_script};
 use bench_run::trace_model::Channels;
 use bench_run::vidi_bits::Memory;
 use bench_run::{PlainRun, Spot, run_plain};
-use crate::sends::is_two_sends;
 use sample_designs::net_sim::Sim;
 use sample_designs::{Sample, flick_channels, is_row, sample_stage, stage_channels};
 use std::alloc::Global;

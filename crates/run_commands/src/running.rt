@@ -20,8 +20,7 @@ ghost use Rattle.vidi_bench.specs.Steps.{IsSaid};
 
 use crate::line::{LINE_BYTES, unstable_line};
 use bench_run::chan_map::Map;
-use bench_run::env_script::ScriptEnv;
-use bench_run::env_script::Script;
+use bench_run::env_script::{Script, ScriptEnv};
 use bench_run::trace_model::{Channels, Rows};
 use bench_run::{PlainRun, Spot, run_plain};
 use net_design::{Block, Design};

@@ -15,8 +15,8 @@ mod sequence;
 #[cfg(test)]
 mod tests;
 
+pub use env_script;
 pub use files::Sample;
 pub use generate::{LARGEST, sample};
 pub use laws::{capacities_suffice, map_is_bound, map_is_read, plans_are_read, scripts_are_read};
 pub use room_ledger::{trace_model, vidi_bits};
-pub use env_script;

@@ -3,9 +3,9 @@
 use report_text::vidi_io::ReadError;
 use shim_cosim::CosimError;
 use shim_cosim::chan_map::MapError;
+use shim_cosim::env_script::{ScriptError, StallError};
 use shim_cosim::net_order::OrderError;
 use shim_cosim::room_ledger::RoomError;
-use shim_cosim::env_script::{ScriptError, StallError};
 use shim_cosim::shim_gen::WrapError;
 use shim_cosim::trace_code::CodeError;
 use shim_cosim::vidi_lines::LineError;

@@ -5,10 +5,10 @@ ghost use Rattle.vidi_laws.specs.Headline.{DrainedRecordingIsTheRun, RecordedRun
 ghost use Rattle.vidi_laws.specs.OneAnswer.{OneAnswer};
 
 use vidi_commands::chan_map::{one_binding, one_map_text};
+use vidi_commands::env_script::{one_plan, one_script};
 use vidi_commands::net_order::one_settled_map;
 use vidi_commands::replay_run::one_outcome;
 use vidi_commands::run_model::{bound_is_map_of, driven_alike, maps_alike, one_end, runs_alike};
-use vidi_commands::env_script::{one_plan, one_script};
 use vidi_commands::trace_code::{one_place, one_reading, one_salvage};
 
 /// Lawful designs that have the parts of one file's instances are alike.

@@ -1,5 +1,6 @@
 -- What a recording leaves, by how it ends.
-use Rattle.std.proofs.Common.{◌≡◌, ℕ, ◌≤◌, List, ◌++◌, Option, Some, None, inl, inr, length, sym, subst, arith}
+use Rattle.std.proofs.Common.{◌≡◌, ℕ, ◌≤◌, false, List, ◌++◌, Option, Some, None, inl, inr, length, refl, sym, subst, arith}
+use Rattle.std.proofs.lemmas.Bool.{false≢true}
 use Rattle.std.specs.Io.KnownBytes.{append_known}
 use Rattle.trace_code.specs.trace_model.declared.row.Row.{Row}
 use Rattle.trace_code.specs.trace_model.Channel.{IsTable}
@@ -9,14 +10,17 @@ use Rattle.net_design.specs.declared.values.Values.{Values}
 use Rattle.env_script.specs.run_model.Laws.{OffersFit}
 use Rattle.env_script.specs.run_model.Played.{AreStable}
 use Rattle.room_ledger.specs.Ledger.{Ledger}
-use Rattle.chan_monitor.specs.Shell.{IsMapped}
+use Rattle.run_stage.specs.chan_monitor.Shell.{IsMapped}
 use Rattle.trace_code.specs.trace_model.declared.packet.TheConstants.{MOST_CYCLES}
 use Rattle.vidi_io.specs.Sink.{AppendsSome}
 use Rattle.vidi_recorder.specs.declared.error.Outcome.{Outcome}
 use Rattle.vidi_recorder.specs.declared.error.Outcome.TheVariants.{Whole, Unstable}
-use Rattle.vidi_recorder.specs.Course.{Course, IsTheRunOf}
+use Rattle.run_stage.specs.declared.ending.Ending.{Ending}
+use Rattle.run_stage.specs.declared.ending.Ending.TheVariants as endings
+use Rattle.run_stage.specs.Playing.{Came, Plays, Stops}
+use Rattle.vidi_recorder.specs.Course.{Course, rule_of, IsTheRunOf}
 use Rattle.vidi_recorder.specs.Recording.{EndsWith, IsCutOff, IsRecorded}
-use Rattle.vidi_recorder.specs.Standing.{Cut, Going, Reached, RunsTo}
+use Rattle.vidi_recorder.specs.Standing.{Cut, Going, Reached, RunsTo, ended}
 use Rattle.vidi_recorder.proofs.Going.{cut-end, told-closed}
 use Rattle.vidi_recorder.proofs.Runs.{ended-front, going-front, the-run}
 use Rattle.vidi_recorder.proofs.Short.{trace-short}
@@ -98,3 +102,11 @@ cut-before w runs stands_for rows first now cut stands ready fit reached stable 
   of_the_run = going-front w ready fit rows cut.bytes cut.lost reached.0 stable l cut.all;
   out = cut.out;
 }
+
+-- the cycles ended; a recorder is never done before
+pub ran-to : (w : Course) (runs : Design → Values → List Row → Type 0) (last : Row) (rows : List Row) (packets : ℕ) (ending : Ending)
+    → Plays w.design w.bound (rule_of w) runs last rows → Stops w.design w.bound (rule_of w) rows ending
+    → Came (λ _ over. over ≡ false) w.cycles rows ending → RunsTo w rows packets (ended packets ending)
+ran-to w runs last rows packets endings.Whole plays stops came = ((plays.played, plays.stable, came.0), refl)
+ran-to w runs last rows packets (endings.Done cycles) plays stops came = absurd (false≢true (sym came.1))
+ran-to w runs last rows packets (endings.Unstable channel cycle) plays stops came = ((stops, came.1), sym came.0, refl)

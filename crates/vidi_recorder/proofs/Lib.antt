@@ -1,4 +1,3 @@
-pub mod Silent
 pub mod Lengths
 pub mod Passed
 pub mod Pushing
@@ -6,9 +5,9 @@ pub mod Runs
 pub mod Kept
 pub mod Going
 pub mod Turning
-pub mod Looking
 pub mod Short
 pub mod Ends
 pub mod Turns
+pub mod Keeping
 pub mod ScriptKept
 pub use Rattle.vidi_io.proofs as vidi_io_lemmas

@@ -30,7 +30,7 @@ use Rattle.room_ledger.specs.Reservation.{AreRaised}
 use Rattle.room_ledger.proofs.Existence.{has-gates}
 use Rattle.room_ledger.proofs.GateLaws.{one-set, some-row}
 use Rattle.env_script.proofs.Lasting.{offers-fit}
-use Rattle.chan_monitor.specs.Shell.{IsMapped}
+use Rattle.run_stage.specs.chan_monitor.Shell.{IsMapped}
 use Rattle.vidi_recorder.specs.Course.{Course, course, rule_of, GatesUnder, IsRunOf, IsTheRunOf, sizes_of}
 use Rattle.vidi_recorder.specs.Laws.{OneRecordedRun}
 use Rattle.vidi_recorder.specs.Standing.{body}

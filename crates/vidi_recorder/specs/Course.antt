@@ -46,6 +46,10 @@ GatesUnder channels plan before gates = AreGates (sizes_of channels) plan before
 abbrev pub rule_of : Course → List Row → Row → Type 0
 rule_of w = IsRunRow w.bound.channels w.offers (GatesUnder w.bound.channels w.plan)
 
+-- the same where the environment offers this after a list of rows
+abbrev pub rule_under : List Channel → (List Row → ℕ → Offer) → Plan → List Row → Row → Type 0
+rule_under channels offer plan = IsRunRow channels (offers_after channels offer) (GatesUnder channels plan)
+
 -- *IsRun* under the plan
 abbrev pub IsRunOf : Course → List Row → Type 0
 IsRunOf w rows = IsRun w.design w.bound w.offers (GatesUnder w.bound.channels w.plan) rows

@@ -9,9 +9,9 @@ mod cells;
 mod error;
 mod laws;
 mod record;
+mod recorder;
 mod script_laws;
 mod steps;
-mod turn;
 
 pub use env_script;
 pub use error::{Outcome, RecordError};

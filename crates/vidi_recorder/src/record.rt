@@ -4,84 +4,96 @@ ghost use Rattle.std.specs.Prelude.{◌≡◌, ◌≤◌, ℕ, [], false, List, 
 ghost use Rattle.circular_buffer.specs.Buffer.{buffer};
 ghost use Rattle.trace_code.specs.trace_model.declared.row.Row.{Row as OneRow};
 ghost use Rattle.trace_code.specs.trace_model.Channel.{IsTable};
+ghost use Rattle.trace_code.specs.trace_model.Row.{all_widths};
 ghost use Rattle.trace_code.specs.Encoding.{header_bytes};
 ghost use Rattle.net_design.specs.declared.design.Design.{Design};
 ghost use Rattle.net_design.specs.declared.values.Values.{Values};
 ghost use Rattle.room_ledger.specs.Ledger.{empty};
+ghost use Rattle.run_stage.specs.Playing.{AreOver};
 ghost use Rattle.vidi_io.specs.Cause.{HasCause};
 ghost use Rattle.vidi_io.specs.Sink.{Frame};
 ghost use Rattle.vidi_recorder.specs.Course.{course, plan_of, sizes_of};
 ghost use Rattle.vidi_recorder.specs.Recording.{EndsWith, FailsFor, FailsWith, IsCutOff};
-ghost use Rattle.vidi_recorder.specs.Standing.{Going, HasSizes, Reached, RunsTo};
+ghost use Rattle.vidi_recorder.specs.Standing.{Going, Reached, RunsTo, ended};
 ghost use Rattle.trace_code.specs.trace_model.declared.packet.TheConstants.{MOST_CYCLES};
 
-use crate::cells::{Cells, open};
+use crate::cells::open;
 use crate::error::{Outcome, RecordError};
-use crate::steps::close;
-use crate::turn::turn;
-use chan_monitor::Shell;
+use crate::recorder::Recorder;
+use crate::steps::{close, offer};
 use env_script::chan_map::Map;
 use env_script::{Env, Stalls};
 use room_ledger::Room;
+use run_stage::chan_monitor::Shell;
+use run_stage::{Ending, TwoRows, play};
 use std::alloc::Global;
-use trace_code::trace_model::LONGEST_PACKET;
 use vidi_io::{Failed, Sink};
 
-/// Resets the shell, pushes the header and goes through the cycles of the run. The rest and the end mark aren't pushed yet.
-fn play<S: Shell, E: Env, K: Sink>(
-    shell: &mut S,
-    map: &Map,
-    env: &mut E,
-    stalls: &Stalls,
-    cycles: u32,
-    cells: &mut Cells,
-    sink: &mut K,
-) -> Result<Outcome, Failed>
-    requires table { IsTable map.now.channels }
-    requires mapped { S.map shell.old ≡ map.now }
-    requires channels { E.channels env.old ≡ map.now.channels }
-    requires first { E.stands_for env.old [] }
-    requires few { cycles ≤ MOST_CYCLES }
-    requires header { cells.old.header ≡ header_bytes map.now.channels }
-    requires room { cells.old.room ≡ empty (sizes_of map.now.channels) false stalls.now.capacity }
-    requires store { cells.old.store ≡ buffer [] stalls.now.capacity }
-    requires last { cells.old.last.valids ≡ 0 }
-    requires packets { cells.old.packets ≡ 0 }
-    requires sizes { HasSizes map.now.channels stalls.now.capacity cells.old.store.capacity cells.old.room.used cells.old.out.items
-        cells.old.offers cells.old.row cells.old.last }
-    ensures ok { IfOk result (λ outcome. (rows : List OneRow) × E.stands_for env.new rows
-        × Going map.now.channels (plan_of stalls.now) (K.told sink.old) rows cells.new.room cells.new.store.items (K.told sink.new)
-        cells.new.packets
-        × ((d : Design) (s : Values) (before : Option OneRow) → S.runs shell.old d s before
-        → RunsTo (course d map.now (E.offer (E.plan env.old)) stalls.now cycles) rows cells.new.packets outcome
-        × Reached (course d map.now (E.offer (E.plan env.old)) stalls.now cycles) (S.runs shell.new) rows)) }
-    ensures cut { OnErr result ((d : Design) (s : Values) (before : Option OneRow) → S.runs shell.old d s before
-        → IsCutOff (course d map.now (E.offer (E.plan env.old)) stalls.now cycles) (S.runs shell.new) (E.stands_for env.new)
-        (K.told sink.old) (K.told sink.new)) }
-    ensures waits { IfOk result (λ _. length cells.new.store.items ≤ length cells.new.out.items) }
-    ensures map { S.map shell.new ≡ S.map shell.old }
-    ensures plan { E.plan env.new ≡ E.plan env.old }
-    ensures channels { E.channels env.new ≡ E.channels env.old }
-    ensures place { K.place sink.new ≡ K.place sink.old }
-    ensures frame { (f : Frame) → K.has_frame sink.old f → K.has_frame sink.new f }
-    ensures cause { HasCause (K.faults sink.old) (K.faults sink.new) result }
+/// How a recording ends whose cycles ended so; a recorder is never done before.
+fn outcome(ending: Ending, packets: u32) -> Outcome
+    ensures { result ≡ ended packets ending }
 {
-    let mut packet = [0; LONGEST_PACKET];
-    shell.reset();
-    sink.push(cells.header.as_slice())?;
-    for cycle in 0..cycles {
-        if let Some(channel) = turn(shell, env, map, stalls, cycle, cells, &mut packet, sink)? {
-            let packets = cells.packets;
-            return Ok(Outcome::Unstable {
-                channel,
-                cycle,
-                packets,
-            });
-        }
+    match ending {
+        Ending::Unstable { channel, cycle } => Outcome::Unstable {
+            channel,
+            cycle,
+            packets,
+        },
+        Ending::Whole | Ending::Done { .. } => Outcome::Whole { packets },
     }
-    let packets = cells.packets;
-    Ok(Outcome::Whole { packets })
 }
+
+/// Resets the shell, pushes the header and goes through the cycles of the run. The rest and the end mark aren't pushed yet.
+fn run<S: Shell, E: Env, K: Sink>(
+    shell: &mut S,
+    recorder: &mut Recorder<'_, '_, '_, '_, '_, E, K>,
+    cycles: u32,
+    rows: &mut TwoRows,
+) -> Result<Outcome, Failed>
+    requires table { IsTable recorder.old.map.now.channels }
+    requires mapped { S.map shell.old ≡ recorder.old.map.now }
+    requires channels { E.channels recorder.old.env.now ≡ recorder.old.map.now.channels }
+    requires first { E.stands_for recorder.old.env.now [] }
+    requires few { cycles ≤ MOST_CYCLES }
+    requires header { recorder.old.cells.now.header ≡ header_bytes recorder.old.map.now.channels }
+    requires room { recorder.old.cells.now.room ≡ empty (sizes_of recorder.old.map.now.channels) false recorder.old.stalls.now.capacity }
+    requires store { recorder.old.cells.now.store ≡ buffer [] recorder.old.stalls.now.capacity }
+    requires out { length recorder.old.cells.now.out.items ≡ recorder.old.stalls.now.capacity }
+    requires offers { length recorder.old.cells.now.given.offers.contents ≡ length (all_widths recorder.old.map.now.channels) }
+    requires packets { recorder.old.cells.now.packets ≡ 0 }
+    requires rows { AreOver recorder.old.map.now.channels rows.old }
+    requires silent { rows.old.last.valids ≡ 0 }
+    ensures ok { IfOk result (λ outcome. (played : List OneRow) × E.stands_for recorder.new.env.now played
+        × Going recorder.old.map.now.channels (plan_of recorder.old.stalls.now) (K.told recorder.old.sink.now) played
+        recorder.new.cells.now.room recorder.new.cells.now.store.items (K.told recorder.new.sink.now) recorder.new.cells.now.packets
+        × ((d : Design) (s : Values) (before : Option OneRow) → S.runs shell.old d s before
+        → RunsTo (course d recorder.old.map.now (E.offer (E.plan recorder.old.env.now)) recorder.old.stalls.now cycles) played
+        recorder.new.cells.now.packets outcome
+        × Reached (course d recorder.old.map.now (E.offer (E.plan recorder.old.env.now)) recorder.old.stalls.now cycles)
+        (S.runs shell.new) played)) }
+    ensures cut { OnErr result ((d : Design) (s : Values) (before : Option OneRow) → S.runs shell.old d s before
+        → IsCutOff (course d recorder.old.map.now (E.offer (E.plan recorder.old.env.now)) recorder.old.stalls.now cycles)
+        (S.runs shell.new) (E.stands_for recorder.new.env.now) (K.told recorder.old.sink.now) (K.told recorder.new.sink.now)) }
+    ensures waits { IfOk result (λ _. length recorder.new.cells.now.store.items ≤ length recorder.new.cells.now.out.items) }
+    ensures map { S.map shell.new ≡ S.map shell.old }
+    ensures plan { E.plan recorder.new.env.now ≡ E.plan recorder.old.env.now }
+    ensures env_channels { E.channels recorder.new.env.now ≡ E.channels recorder.old.env.now }
+    ensures place { K.place recorder.new.sink.now ≡ K.place recorder.old.sink.now }
+    ensures frame { (f : Frame) → K.has_frame recorder.old.sink.now f → K.has_frame recorder.new.sink.now f }
+    ensures cause { HasCause (K.faults recorder.old.sink.now) (K.faults recorder.new.sink.now) result }
+    ensures same_env { recorder.new.env.ghost_name ≡ recorder.old.env.ghost_name }
+    ensures same_cells { recorder.new.cells.ghost_name ≡ recorder.old.cells.ghost_name }
+    ensures same_sink { recorder.new.sink.ghost_name ≡ recorder.old.sink.ghost_name }
+{
+    let map = recorder.map;
+    let cells = &mut *recorder.cells;
+    shell.reset();
+    recorder.sink.push(cells.header.as_slice())?;
+    offer(&*recorder.env, &map.channels, &cells.room, &mut cells.given);
+    let ending = play(shell, recorder, map, cycles, rows)?;
+    Ok(outcome(ending, recorder.cells.packets))
+}
+
 /// Runs a design behind the gates of its channels for 1 to 50,000 cycles and writes the trace of the run to the sink as it drains. The
 /// map's table is lawful, the shell and the environment are of the map's design and channels, the environment stands for no row yet,
 /// and the room is new, of the map's channels and the plan's capacity, without resets.
@@ -125,7 +137,15 @@ pub fn record_run<S: Shell, E: Env, K: Sink>(
     ensures frame { (f : Frame) → K.has_frame sink.old f → K.has_frame sink.new f }
 {
     let mut cells = open(alloc, &map.channels, stalls.capacity(), room)?;
-    let outcome = play(shell, map, env, stalls, cycles, &mut cells, sink)?;
+    let mut rows = TwoRows::new(alloc, &map.channels)?;
+    let mut recorder = Recorder {
+        map,
+        stalls,
+        env,
+        cells: &mut cells,
+        sink,
+    };
+    let outcome = run(shell, &mut recorder, cycles, &mut rows)?;
     close(
         &mut cells.store,
         cells.packets,

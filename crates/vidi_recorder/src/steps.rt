@@ -1,61 +1,39 @@
 //! The steps of a cycle.
 
-ghost use Rattle.std.specs.Prelude.{◌≡◌, ◌<◌, ◌≤◌, ◌^◌, ◌++◌, ℕ, Option, if◌then◌else◌, length, map, take, drop, OnOk, OnErr};
+ghost use Rattle.std.specs.Prelude.{◌≡◌, ◌<◌, ◌≤◌, ◌^◌, ◌++◌, if◌then◌else◌, length, map, take, drop, OnOk, OnErr};
 ghost use Rattle.std.specs.Io.KnownBytes.{append_known};
 ghost use Rattle.circular_buffer.specs.Buffer.{buffer};
 ghost use Rattle.trace_code.specs.trace_model.declared.packet.TheConstants.{LONGEST_PACKET};
-ghost use Rattle.trace_code.specs.trace_model.declared.row.Row.{Row as OneRow};
 ghost use Rattle.trace_code.specs.trace_model.Channel.{content_bytes, IsTable};
 ghost use Rattle.trace_code.specs.trace_model.Recording.{has_event};
 ghost use Rattle.trace_code.specs.trace_model.Row.{all_widths, IsOver};
 ghost use Rattle.trace_code.specs.Encoding.{end_mark, row_bytes};
-ghost use Rattle.net_design.specs.declared.design.Design.{Design};
-ghost use Rattle.net_design.specs.declared.values.Values.{Values};
 ghost use Rattle.room_ledger.specs.Gates.{drained, left};
 ghost use Rattle.room_ledger.specs.Ledger.{Emitted, MayEmit, Regranted};
-ghost use Rattle.env_script.specs.Offer.{Carries, EndsAreCompletions};
-ghost use Rattle.chan_monitor.specs.Shell.{HasPlaces, IsShown};
 ghost use Rattle.env_script.specs.Offered.{offers_on, AllFit};
 ghost use Rattle.vidi_io.specs.Cause.{HasCause};
 ghost use Rattle.vidi_io.specs.Sink.{AppendsSome, Frame};
 
-use chan_monitor::Shell;
 use env_script::{Env, gather};
 use room_ledger::Room;
-use trace_code::trace_model::{Channels, Offers, Row, packets_in};
+use run_stage::Gated;
+use trace_code::trace_model::{Channels, Row, packets_in};
 use trace_code::{end_mark, write_packet};
 use trace_store::Store;
 use vidi_io::{Failed, Sink};
 
-/// Fills the row of a cycle, under what the environment offers now and these gates.
-pub(crate) fn look<S: Shell, E: Env>(
-    shell: &mut S,
-    env: &E,
-    channels: &Channels,
-    gates: u128,
-    offers: &mut Offers,
-    row: &mut Row,
-)
-    requires map { (S.map shell.old).channels ≡ channels.now }
+/// Makes what is given in the next cycle: what the environment offers now, and the gates that are up.
+pub(crate) fn offer<E: Env>(env: &E, channels: &Channels, room: &Room, given: &mut Gated)
     requires channels { E.channels env.now ≡ channels.now }
     requires few { length channels.now ≤ 128 }
     requires fits { AllFit channels.now (E.current env.now) }
-    requires gates { gates < 2 ^ length channels.now }
-    requires offers { length offers.old.contents ≡ length (all_widths channels.now) }
-    requires places { HasPlaces channels.now row.old }
-    ensures shown { (d : Design) (s : Values) (before : Option OneRow) → S.runs shell.old d s before
-        → IsShown d (S.map shell.old) s before (offers_on channels.now (E.current env.now)) gates row.new × S.runs shell.new d s before }
-    ensures over { IsOver channels.now row.new }
-    ensures carries { Carries channels.now (E.current env.now) row.new }
-    ensures ends { EndsAreCompletions row.new }
-    ensures gates { row.new.gates ≡ gates }
-    ensures fresh { row.new.fresh ≡ row.old.fresh }
-    ensures offers { length offers.new.contents ≡ length (all_widths channels.now) }
-    ensures driven { S.driven shell.new row.new }
-    ensures map { S.map shell.new ≡ S.map shell.old }
+    requires places { length given.old.offers.contents ≡ length (all_widths channels.now) }
+    ensures offers { given.new.offers ≡ offers_on channels.now (E.current env.now) }
+    ensures gates { given.new.gates ≡ room.now.gates }
+    ensures below { given.new.gates < 2 ^ length room.now.sizes }
 {
-    gather(env, channels, offers);
-    shell.drive(offers, gates, row);
+    gather(env, channels, &mut given.offers);
+    given.gates = room.gates();
 }
 
 /// Puts the packet of a row into the store and the books, where the row has an event. Gives how many packets it has.

@@ -3,7 +3,7 @@ use Rattle.std.proofs.lemmas.Result.{err_from_is_err_and}
 use Rattle.trace_code.specs.trace_model.declared.row.Row.{Row}
 use Rattle.net_design.specs.declared.design.Design.{Design}
 use Rattle.net_design.specs.declared.values.Values.{Values}
-use Rattle.chan_monitor.specs.Shell.{IsMapped}
+use Rattle.run_stage.specs.chan_monitor.Shell.{IsMapped}
 use Rattle.vidi_recorder.specs.declared.error.RecordError.{RecordError}
 use Rattle.vidi_recorder.specs.declared.error.RecordError.TheVariants.{WriteFault}
 use Rattle.vidi_recorder.specs.Course.{course}
@@ -22,9 +22,9 @@ returns-clause-ok g c d s before is =
     let played = c.in_ok-outcome.ensures.ok in
     let ends = played.3 d s before is in
     ends-as (course d c.args.map.now (g.E.Env.offer (g.E.Env.plan c.args.env.now)) c.args.stalls.now c.args.cycles)
-    (g.S.Shell.runs c.play.new.shell) (g.E.Env.stands_for c.play.new.env) played.0 (g.K.Sink.told c.args.sink.now)
-    (g.K.Sink.told c.play.new.sink) (g.K.Sink.told c.close.new.sink) ends.1 c.play.new.cells.room c.play.new.cells.store.items
-    c.play.new.cells.packets c.in_ok-outcome.outcome played.2 played.1 c.in_ok-close.ensures.ok c.requires.table c.requires.few ends.0
+    (g.S.Shell.runs c.run.new.shell) (g.E.Env.stands_for c.run.new.recorder.env.now) played.0 (g.K.Sink.told c.args.sink.now)
+    (g.K.Sink.told c.run.new.recorder.sink.now) (g.K.Sink.told c.close.new.sink) ends.1 c.run.new.recorder.cells.now.room c.run.new.recorder.cells.now.store.items
+    c.run.new.recorder.cells.now.packets c.in_ok-outcome.outcome played.2 played.1 c.in_ok-close.ensures.ok c.requires.table c.requires.few ends.0
 
 pub returns-in_err-close-clause-err : goal.returns-in_err-close-clause-err
 returns-in_err-close-clause-err g c =
@@ -35,12 +35,12 @@ returns-in_err-close-clause-err g c =
     c.requires.channels (g.met.E.Env.fits c.args.env.now) (g.met.E.Env.stays c.args.env.now) in
     if_err
     (λ (e : RecordError). (d : Design) (s : Values) (before : Option Row) → g.S.Shell.runs c.args.shell.now d s before
-    → FailsWith (w d) (g.S.Shell.runs c.play.new.shell) (g.E.Env.stands_for c.play.new.env) (g.K.Sink.told c.args.sink.now)
+    → FailsWith (w d) (g.S.Shell.runs c.run.new.shell) (g.E.Env.stands_for c.run.new.recorder.env.now) (g.K.Sink.told c.args.sink.now)
     (g.K.Sink.told c.close.new.sink) e)
     c.from_residual-in_err-close.result p.0 WriteFault p.1 p.2
     (λ d s before is. (let ends = played.3 d s before is in
-    cut-as (w d) (g.S.Shell.runs c.play.new.shell) (g.E.Env.stands_for c.play.new.env) played.0 (g.K.Sink.told c.args.sink.now)
-    (g.K.Sink.told c.play.new.sink) (g.K.Sink.told c.close.new.sink) ends.1 c.play.new.cells.room c.play.new.cells.store.items
-    c.play.new.cells.packets c.in_ok-outcome.outcome played.2 played.1 c.in_err-close.ensures.err
+    cut-as (w d) (g.S.Shell.runs c.run.new.shell) (g.E.Env.stands_for c.run.new.recorder.env.now) played.0 (g.K.Sink.told c.args.sink.now)
+    (g.K.Sink.told c.run.new.recorder.sink.now) (g.K.Sink.told c.close.new.sink) ends.1 c.run.new.recorder.cells.now.room c.run.new.recorder.cells.now.store.items
+    c.run.new.recorder.cells.now.packets c.in_ok-outcome.outcome played.2 played.1 c.in_err-close.ensures.err
     (subst (IsMapped d) c.requires.mapped (g.met.S.Shell.ready c.args.shell.now d s before is))
     (offers-fit c.args.map.now.channels (g.E.Env.offer (g.E.Env.plan c.args.env.now)) lasts) ends.0))

@@ -1,11 +1,15 @@
-use Rattle.std.proofs.Common.{◌≡◌, ◌++◌, ap, ◌∙◌, arith, length, take, drop}
-use Rattle.env_script.proofs.Moves.{reads_all, refilled, committed}
+use Rattle.std.proofs.Common.{◌≡◌, ◌++◌, ap, ◌∙◌, subst, arith, length, take, drop}
+use Rattle.env_script.specs.Fits.{steps_of}
+use Rattle.env_script.specs.Places.{AllReadWithin}
+use Rattle.env_script.proofs.Moves.{refilled, committed}
 use Rattle.env_script.proofs.script_env.ScriptEnvEnv.commit.Goals as goal
 
 pub move_on-requires-clause-reads : goal.move_on-requires-clause-reads
-move_on-requires-clause-reads c =
-    reads_all c.args.self.now.channels.now c.args.self.now.script.now (length c.as_slice.result.now) c.args.self.now.fits
-    (omega (arith, c.as_slice.ensures.len, c.args.self.now.done.ok.0, c.args.self.now.all_done))
+move_on-requires-clause-reads c = λ k.
+    let self = c.args.self.now in
+    subst (λ n. AllReadWithin n (steps_of self.script.now k))
+    (let z : length self.channels.now ≡ length c.as_slice.result.now =
+    omega (arith, c.as_slice.ensures.len, self.done.ok.0, self.all_done) in z) (self.reads k)
 
 pub returns-clause-rows : goal.returns-clause-rows
 returns-clause-rows c = λ rows stands.

@@ -1,10 +1,10 @@
 -- A row in which nothing is up is one over its channels.
 use Rattle.std.proofs.Common.{◌≡◌, false, List, length, replicate, refl, subst, sym}
 use Rattle.std.proofs.lemmas.Nat.{pow_pos}
-use Rattle.trace_code.specs.trace_model.declared.channel.Channel.{Channel}
-use Rattle.trace_code.specs.trace_model.declared.row.Row.{Row}
-use Rattle.trace_code.specs.trace_model.Row.{all_widths, IsOver}
-use Rattle.env_script.proofs.run_model_lemmas.Contents.{fit-zeros}
+use Rattle.chan_replayer.specs.trace_model.declared.channel.Channel.{Channel}
+use Rattle.chan_replayer.specs.trace_model.declared.row.Row.{Row}
+use Rattle.chan_replayer.specs.trace_model.Row.{all_widths, IsOver}
+use Rattle.chan_replayer.proofs.run_model_lemmas.Contents.{fit-zeros}
 
 abbrev pub silent : List Channel → Row
 silent channels = record {
@@ -35,6 +35,5 @@ pub silent_over : (channels : List Channel) (row : Row) → row ≡ record {
   contents = replicate (length (all_widths channels)) 0;
   starts = 0;
   ends = 0;
-} → (row.valids ≡ 0) × IsOver channels row × (row.fresh ≡ false)
-silent_over channels row e = subst (λ (r : Row). (r.valids ≡ 0) × IsOver channels r × (r.fresh ≡ false)) (sym e)
-    (refl, over-silent channels, refl)
+} → (row.valids ≡ 0) × IsOver channels row
+silent_over channels row e = subst (λ (r : Row). (r.valids ≡ 0) × IsOver channels r) (sym e) (refl, over-silent channels)
