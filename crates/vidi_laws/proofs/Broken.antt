@@ -14,7 +14,7 @@ use Rattle.vidi_commands.specs.trace_code.declared.error.CodeError.TheVariants a
 use Rattle.vidi_commands.specs.trace_code.Decoding.{HasNoHeader}
 use Rattle.vidi_commands.specs.trace_code.Encoding.{HasEncoding, encode, end_mark, header_bytes, packet_bytes}
 use Rattle.vidi_commands.specs.trace_code.Salvage.{front, FrontIsSalvaged, LieWhole, Salvages}
-use Rattle.vidi_commands.specs.vidi_io.Shelf.{Files, holding}
+use Rattle.vidi_commands.specs.vidi_io.Shelf.{Files, HasStarted, holding}
 use Rattle.vidi_commands.specs.report_text.declared.reason.Word.TheVariants as words
 use Rattle.vidi_commands.specs.vidi_bench.declared.status.Status.{Status}
 use Rattle.vidi_commands.specs.vidi_bench.Reading.{IsRead}
@@ -93,9 +93,11 @@ module _ (law : FrontIsSalvaged) (t : Trace) (bytes : List ℕ) (encodes : HasEn
           }
 
 pub broken-salvaged : FrontIsSalvaged → BrokenRecordingIsSalvaged
-broken-salvaged law design m script stalls files b plan planned rows stop run bytes broken trace out now at P status text left saves =
+broken-salvaged law design m script stalls files b plan planned rows stop run bytes broken trace out now at starts after status text left
+    saves =
     saved law (trace_of b.device.map.channels rows) bytes (run-kept design m script stalls files b plan planned rows stop run).encoded broken
-    (recorded-short design m script stalls files b plan planned rows stop run) trace out now at P status text left saves
+    (recorded-short design m script stalls files b plan planned rows stop run) trace out now at (HasStarted starts after) status text left
+    saves
 
 -- ---- a front is no longer than the whole
 

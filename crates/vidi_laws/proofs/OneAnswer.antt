@@ -4,7 +4,7 @@ use Rattle.vidi_commands.proofs.vidi_bits_lemmas.Lists.{some_same}
 use Rattle.vidi_commands.specs.vidi_lines.Number.{number_of}
 use Rattle.vidi_commands.specs.trace_code.Decoding.{OnePlace, OneReading}
 use Rattle.vidi_commands.specs.trace_code.Salvage.{OneSalvage}
-use Rattle.vidi_commands.specs.vidi_io.Shelf.{Files}
+use Rattle.vidi_commands.specs.vidi_io.Shelf.{Files, HasStarted}
 use Rattle.vidi_commands.specs.vidi_bench.declared.status.Status.{Status}
 use Rattle.vidi_commands.specs.Command.{Command, Dump, Check, Run, Record, Replay, Compare, Salvage, Wrap, Sample, IsGiven}
 use Rattle.vidi_commands.specs.Answer.{Does}
@@ -298,13 +298,13 @@ one_deed laws (Sample number) files P Q a b x y left right (d, (l, _)) (e, (r, _
     kept files a b x y left right (one_sample laws.benches laws.replays number a b x y d e) l r
 
 pub one_answer_lem : Laws → OneAnswer
-one_answer_lem laws words files P Q a b x y left right (inr (inl (said, _))) _ = inl said.0
-one_answer_lem laws words files P Q a b x y left right _ (inr (inl (said, _))) = inr (inl said.0)
-one_answer_lem laws words files P Q a b x y left right (inl (none, s, (l, _))) (inl (none', s', (r, _))) =
+one_answer_lem laws words files before now first last a b x y left right (inr (inl (said, _))) _ = inl said.0
+one_answer_lem laws words files before now first last a b x y left right _ (inr (inl (said, _))) = inr (inl said.0)
+one_answer_lem laws words files before now first last a b x y left right (inl (none, s, (l, _))) (inl (none', s', (r, _))) =
     inr (inr (inr (s.0 ∙ sym s'.0, s.1 ∙ sym s'.1), l ∙ sym r))
-one_answer_lem laws words files P Q a b x y left right (inl (none, s, l)) (inr (inr (c, given, d))) = absurd (none c given)
-one_answer_lem laws words files P Q a b x y left right (inr (inr (c, given, d))) (inl (none, s, r)) = absurd (none c given)
-one_answer_lem laws words files P Q a b x y left right (inr (inr (c, given, d))) (inr (inr (k, given', e))) =
+one_answer_lem laws words files before now first last a b x y left right (inl (none, s, l)) (inr (inr (c, given, d))) = absurd (none c given)
+one_answer_lem laws words files before now first last a b x y left right (inr (inr (c, given, d))) (inl (none, s, r)) = absurd (none c given)
+one_answer_lem laws words files before now first last a b x y left right (inr (inr (c, given, d))) (inr (inr (k, given', e))) =
     let same = one_command words k c given' given in
-    inr (inr (one_deed laws c files P Q a b x y left right d
-    (subst (λ (m : Command). Does m (Some files) (λ _. ⊥) Q b y right) same e)))
+    inr (inr (one_deed laws c files (HasStarted before now) (HasStarted first last) a b x y left right d
+    (subst (λ (m : Command). Does m (Some files) (λ _. ⊥) (HasStarted first last) b y right) same e)))

@@ -3,7 +3,7 @@
 use Rattle.std.specs.Prelude.{◌≡◌, ℕ, ◌<◌, ◌≤◌, Bool, true, false, List, ◌++◌, Option, Some, All, length, slice_get}
 use Rattle.std.specs.FinMap.{get}
 use Rattle.vidi_commands.specs.vidi_bits.Number.{has}
-use Rattle.vidi_commands.specs.vidi_io.Shelf.{Files, holding}
+use Rattle.vidi_commands.specs.vidi_io.Shelf.{Files, HasStarted, holding}
 use Rattle.vlog_tree.specs.Tree.{FileOf}
 use Rattle.vlog_tree.specs.Lines.{bare}
 use Rattle.vidi_commands.specs.trace_model.declared.channel.Channel.{Channel}
@@ -89,8 +89,8 @@ BrokenRecordingIsSalvaged = (design map script stalls : List ℕ) (files : Optio
     → IsPlanned design map script stalls files b plan → (rows : List Row) (stop : Option ℕ) → IsTheRunOf (course_of b plan) rows stop
     → (bytes : List ℕ) → IsBrokenOff (trace_of b.device.map.channels rows) bytes
     → (trace out : List ℕ) (now : Files) → get now trace ≡ Some bytes
-    → (Started : Bool → Type 0) (status : Status) (text : List ℕ) (left : Option Files)
-    → Saves trace out (Some now) (λ _. ⊥) Started status text left
+    → (starts after : ℕ) (status : Status) (text : List ℕ) (left : Option Files)
+    → Saves trace out (Some now) (λ _. ⊥) (HasStarted starts after) status text left
     → KeepsWhole (trace_of b.device.map.channels rows) bytes out now status text left
 
 -- `replay` accepts what `salvage` leaves of it, the encoding of its first packets, where the files of the design and the map are those
