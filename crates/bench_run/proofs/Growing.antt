@@ -1,7 +1,7 @@
 -- The player of a plain run between two cycles, and what its run is.
 use Rattle.std.proofs.Common.{◌≡◌, ℕ, ◌<◌, ◌≤◌, ◌^◌, false, List, [], ◌∷◌, ◌++◌, Option, Some, None, length, slice_get, refl, ap, sym, subst, ◌∙◌, arith}
 use Rattle.std.proofs.Common.{Result, Ok, Err}
-use Rattle.std.specs.Prelude.{OnErr, IfErr, Bool}
+use Rattle.std.specs.Prelude.{OnErr, IfErr, IfOk, Bool}
 use Rattle.std.proofs.Math.Logic.{∥∥₁_elim}
 use Rattle.std.proofs.Props.{props}
 use Rattle.env_script.specs.trace_model.declared.channel.Channel.{Channel}
@@ -25,8 +25,9 @@ use Rattle.run_stage.specs.declared.ending.Ending.{Ending}
 use Rattle.run_stage.specs.declared.ending.Ending.TheVariants.{Whole, Done, Unstable}
 use Rattle.run_stage.specs.declared.given.Gated.{Gated}
 use Rattle.run_stage.specs.Given.{FitsGates, IsGatedRow}
-use Rattle.run_stage.specs.Playing.{AreRuled, Begins, Came, Plays, Stops}
+use Rattle.run_stage.specs.Playing.{AreRuled, Came, Plays, Stops}
 use Rattle.run_stage.proofs.Turning.{last-of, stable-nil}
+use Rattle.bench_run.specs.Playing.{HasBegun}
 use Rattle.bench_run.specs.Plain.{spot_of, GoesOn, IsPlainRun, IsRunAllUp, StandsBehind, StandsWithin}
 use Rattle.bench_run.specs.declared.plain.Spot.{Spot}
 
@@ -101,9 +102,19 @@ plain-as d m offer runs last n rows kept ending spot e at came plays stops =
 abbrev pub stage_runs : (Design → Values → Option Row → Type 0) → Design → Values → List Row → Type 0
 stage_runs runs d s rows = runs d s (row_before rows (length rows))
 
-pub begins : (d : Design) (m given : Map) (runs : Design → Values → Option Row → Type 0) → given ≡ m
-    → ((first : Values) × IsFirst d given first × runs d first None) → Begins d m (stage_runs runs)
-begins d m given runs same (first, is, on) = (first, subst (λ (n : Map). IsFirst d n first) same is, on)
+pub has-begun : (d : Design) (m given : Map) (runs : Design → Values → Option Row → Type 0) → given ≡ m → HasBegun d given runs
+    → HasBegun d m runs
+has-begun d m given runs same (first, is, on) = (first, subst (λ (n : Map). IsFirst d n first) same is, on)
+
+-- by the answer
+pub of-either : {A E : Type 0} (r : Result A E) (P : Type 0) (Q : A → Type 0) (S : E → Type 0) → IfOk r Q → IfErr r S
+    → ((x : A) → Q x → P) → ((e : E) → S e → P) → P
+of-either (Ok x) P Q S q s f h = f x q
+of-either (Err e) P Q S q s f h = h e s
+
+pub if-err : {A E : Type 0} (r : Result A E) (Q S : E → Type 0) → IfErr r Q → ((e : E) → Q e → S e) → IfErr r S
+if-err (Ok x) Q S q f = tt
+if-err (Err e) Q S q f = f e q
 
 pub goes-on : (d : Design) (m : Map) (offer : List Row → ℕ → Offer) (runs : Design → Values → Option Row → Type 0) (last : Row)
     (rows kept : List Row) → kept ≡ rows → Plays d m (rule m offer) (stage_runs runs) last rows → GoesOn runs d m offer kept
@@ -121,7 +132,7 @@ stands-within d m offer n runs last stands_for rows stands few plays = record {
 }
 
 pub nothing-yet : (d : Design) (m given : Map) (offer : List Row → ℕ → Offer) (n : ℕ) (runs : Design → Values → Option Row → Type 0)
-    (stands_for : List Row → Type 0) → given ≡ m → ((first : Values) × IsFirst d given first × runs d first None) → stands_for []
+    (stands_for : List Row → Type 0) → given ≡ m → HasBegun d given runs → stands_for []
     → StandsWithin stands_for d m offer n
 nothing-yet d m given offer n runs stands_for same begun stands = record {
   rows = [];
@@ -130,6 +141,13 @@ nothing-yet d m given offer n runs stands_for same begun stands = record {
   stable = stable-nil m.channels;
   few = omega arith;
 }
+
+pub plain-also : (d : Design) (m : Map) (offer : List Row → ℕ → Offer) (n : ℕ) (rows kept : List Row) (was spot : Option Spot) → kept ≡ rows
+    → spot ≡ was → IsPlainRun d m offer n (record { rows = rows; unstable = was })
+    → IsPlainRun d m offer n (record { rows = kept; unstable = spot })
+plain-also d m offer n rows kept was spot e at is =
+    subst (λ (x : Option Spot). IsPlainRun d m offer n (record { rows = kept; unstable = x })) (sym at)
+    (subst (λ (rs : List Row). IsPlainRun d m offer n (record { rows = rs; unstable = was })) (sym e) is)
 
 pub err-any : {A E P : Type 0} (r : Result A E) → P → IfErr r (λ _. P)
 err-any (Ok x) p = tt

@@ -1,16 +1,18 @@
 //! The plain run.
 
-ghost use Rattle.std.specs.Prelude.{◌≡◌, ◌≤◌, ◌⊎◌, [], Option, length, IfOk, OnErr};
+ghost use Rattle.std.specs.Prelude.{◌≡◌, ◌≤◌, ◌⊎◌, [], Option, length, IfOk, IfErr, OnErr};
 ghost use Rattle.env_script.specs.trace_model.declared.row.Row.{Row as OneRow};
 ghost use Rattle.net_design.specs.declared.design.Design.{Design};
 ghost use Rattle.net_design.specs.declared.values.Values.{Values};
 ghost use Rattle.run_stage.specs.run_model.Building.{PortsAreNets};
 ghost use Rattle.run_stage.specs.run_model.MapOf.{IsMapOf};
+ghost use Rattle.run_stage.specs.Playing.{AreOver};
+ghost use Rattle.bench_run.specs.Playing.{HasBegun, IsAt};
 ghost use Rattle.bench_run.specs.Plain.{spot_of, GoesOn, IsPlainRun, StandsBehind, StandsWithin};
 ghost use Rattle.env_script.specs.trace_model.declared.packet.TheConstants.{MOST_CHANNELS, MOST_CYCLES};
 
 use crate::lent::Lent;
-use crate::player::{PlainPlayer, given_now};
+use crate::player::{PlainCells, PlainPlayer, given_now};
 use env_script::Env;
 use env_script::trace_model::Rows;
 use net_design::Block;
@@ -48,6 +50,40 @@ fn spot_of(ending: Ending) -> Option<Spot>
     }
 }
 
+/// Plays the cycles of a plain run on a shell that was reset.
+fn run_player<S: Shell, E: Env>(
+    shell: &mut S,
+    player: &mut PlainPlayer<'_, '_, '_, E>,
+    cycles: u32,
+    two: &mut TwoRows,
+) -> Result<Ending, Memory>
+    requires mapped { S.map shell.old ≡ player.old.map.now }
+    requires begun { ∥ ((d : Design) × HasBegun d player.old.map.now (S.runs shell.old)) ∥₁ }
+    requires channels { E.channels player.old.env.now ≡ player.old.map.now.channels }
+    requires few { length player.old.map.now.channels ≤ MOST_CHANNELS }
+    requires at { IsAt player.old.map.now.channels (E.stands_for player.old.env.now) (E.current player.old.env.now)
+        player.old.cells.now.given player.old.cells.now.rows [] }
+    requires cycles { cycles ≤ MOST_CYCLES }
+    requires rows { AreOver player.old.map.now.channels two.old }
+    requires silent { two.old.last.valids ≡ 0 }
+    ensures run { IfOk result (λ ending. (d : Design) → HasBegun d player.old.map.now (S.runs shell.old)
+        → IsPlainRun d player.old.map.now (E.offer (E.plan player.old.env.now)) cycles
+        (record { rows = player.new.cells.now.rows; unstable = spot_of ending })) }
+    ensures behind { IfOk result (λ _. (d : Design) → HasBegun d player.old.map.now (S.runs shell.old)
+        → GoesOn (S.runs shell.new) d player.old.map.now (E.offer (E.plan player.old.env.now)) player.new.cells.now.rows) }
+    ensures stands { IfOk result (λ _. E.stands_for player.new.env.now player.new.cells.now.rows) }
+    ensures memory { IfErr result (λ _. (d : Design) → HasBegun d player.old.map.now (S.runs shell.old)
+        → StandsWithin (E.stands_for player.new.env.now) d player.old.map.now (E.offer (E.plan player.old.env.now)) cycles) }
+    ensures place { S.place shell.new ≡ S.place shell.old }
+    ensures env_name { player.new.env.ghost_name ≡ player.old.env.ghost_name }
+    ensures cells_name { player.new.cells.ghost_name ≡ player.old.cells.ghost_name }
+    ensures plan { E.plan player.new.env.now ≡ E.plan player.old.env.now }
+    ensures env_channels { E.channels player.new.env.now ≡ E.channels player.old.env.now }
+{
+    let map = player.map;
+    play(shell, player, map, cycles, two)
+}
+
 /// The run of a shell from a reset on, of each design that it runs. The shell goes on behind its rows.
 fn run_shell<S: Shell, E: Env>(
     alloc: Global,
@@ -73,22 +109,17 @@ fn run_shell<S: Shell, E: Env>(
         → StandsWithin (E.stands_for env.new) d map.now (E.offer (E.plan env.old)) cycles) }
 {
     shell.reset();
-    let channels = &map.channels;
-    let mut two = TwoRows::new(alloc, channels)?;
-    let given = given_now(alloc, env, channels)?;
+    let mut two = TwoRows::new(alloc, &map.channels)?;
+    let given = given_now(alloc, env, &map.channels)?;
     let rows = Rows::new(alloc);
+    let mut cells = PlainCells { alloc, given, rows };
     let mut player = PlainPlayer {
-        alloc,
         map,
         env,
-        given,
-        rows,
+        cells: &mut cells,
     };
-    let ending = play(shell, &mut player, map, cycles, &mut two)?;
-    // The borrow ends, with the environment as the player leaves it.
-    let PlainPlayer {
-        env: _back, rows, ..
-    } = player;
+    let ending = run_player(shell, &mut player, cycles, &mut two)?;
+    let PlainCells { rows, .. } = cells;
     Ok(PlainRun {
         rows,
         unstable: spot_of(ending),

@@ -14,14 +14,22 @@ use run_stage::chan_monitor::vidi_bits::{Items, Memory};
 use run_stage::{Gated, Player};
 use std::alloc::Global;
 
+/// What the player of a plain run holds.
+#[derive(Drop)]
+pub(crate) struct PlainCells {
+    pub alloc: Global,
+    /// What is given for the next row.
+    pub given: Gated,
+    /// The rows so far.
+    pub rows: Rows,
+}
+
 /// An environment that plays with all gates up, and the rows so far.
 #[derive(Drop)]
-pub(crate) struct PlainPlayer<'m, 'e, E: Env> {
-    pub alloc: Global,
+pub(crate) struct PlainPlayer<'m, 'e, 'c, E: Env> {
     pub map: &'m Map,
     pub env: &'e mut E,
-    pub given: Gated,
-    pub rows: Rows,
+    pub cells: &'c mut PlainCells,
 }
 
 /// A copy of a row.
@@ -58,7 +66,7 @@ pub(crate) fn given_now<E: Env>(
     Ok(Gated { offers, gates })
 }
 
-impl<E: Env> Player<Gated> for PlainPlayer<'_, '_, E> {
+impl<E: Env> Player<Gated> for PlainPlayer<'_, '_, '_, E> {
     ghost use Rattle.std.specs.Prelude.{false};
 
     type Fault = Memory;
@@ -69,13 +77,15 @@ impl<E: Env> Player<Gated> for PlainPlayer<'_, '_, E> {
 
     ghost rule = { λ p. IsRunRow p.map.now.channels (offers_after p.map.now.channels (E.offer (E.plan p.env.now))) (AllUp p.map.now.channels) };
 
-    ghost stands = { λ first now rows. IsSame first.map.now now.map.now first.env.ghost_name now.env.ghost_name (E.plan first.env.now)
+    ghost stands = { λ first now rows. IsSame first.map.now now.map.now first.env.ghost_name now.env.ghost_name first.cells.ghost_name
+        now.cells.ghost_name (E.plan first.env.now)
         (E.plan now.env.now) (E.channels now.env.now)
-        × IsAt first.map.now.channels (E.stands_for now.env.now) (E.current now.env.now) now.given now.rows rows };
+        × IsAt first.map.now.channels (E.stands_for now.env.now) (E.current now.env.now) now.cells.now.given now.cells.now.rows rows };
 
     ghost ends = { λ _ _ over. over ≡ false };
 
-    ghost broke = { λ first now rows _. IsSame first.map.now now.map.now first.env.ghost_name now.env.ghost_name (E.plan first.env.now)
+    ghost broke = { λ first now rows _. IsSame first.map.now now.map.now first.env.ghost_name now.env.ghost_name first.cells.ghost_name
+        now.cells.ghost_name (E.plan first.env.now)
         (E.plan now.env.now) (E.channels now.env.now)
         × E.stands_for now.env.now rows };
 
@@ -84,14 +94,14 @@ impl<E: Env> Player<Gated> for PlainPlayer<'_, '_, E> {
     }
 
     fn given(&self) -> &Gated {
-        &self.given
+        &self.cells.given
     }
 
     fn keep(&mut self, _cycle: u32, last: &Row) -> Result<(), Memory> {
         self.env.commit(last);
-        let row = copied(self.alloc, last)?;
-        self.rows.push(row)?;
-        gather(self.env, &self.map.channels, &mut self.given.offers);
+        let row = copied(self.cells.alloc, last)?;
+        self.cells.rows.push(row)?;
+        gather(self.env, &self.map.channels, &mut self.cells.given.offers);
         Ok(())
     }
 }

@@ -1,4 +1,4 @@
-use Rattle.std.proofs.Common.{◌≡◌, ◌++◌, [], Option, length, refl, ap, sym, subst, ◌∙◌}
+use Rattle.std.proofs.Common.{rules, ◌≡◌, ◌++◌, [], Option, length, refl, ap, sym, subst, ◌∙◌}
 use Rattle.std.proofs.Math.Logic.{∥∥₁_map}
 use Rattle.env_script.specs.trace_model.declared.row.Row.{Row}
 use Rattle.net_design.specs.declared.design.Design.{Design}
@@ -6,8 +6,9 @@ use Rattle.net_design.specs.declared.values.Values.{Values}
 use Rattle.run_stage.specs.chan_map.declared.pins.Map.{Map}
 use Rattle.run_stage.specs.chan_monitor.Shell.{IsRunning}
 use Rattle.run_stage.proofs.chan_monitor_lemmas.vidi_bits_lemmas.Results.{on_err}
-use Rattle.bench_run.specs.Plain.{StandsWithin}
-use Rattle.bench_run.proofs.Growing.{begins, fits-now, goes-on, nothing-yet, plain-as, stands-within}
+use Rattle.bench_run.specs.Plain.{GoesOn, StandsWithin}
+use Rattle.bench_run.specs.declared.player.PlainCells.{PlainCells}
+use Rattle.bench_run.proofs.Growing.{fits-now, has-begun, nothing-yet, plain-also}
 use Rattle.bench_run.proofs.plain.run_shell.Goals as goal
 
 pub returns-in_err-two-clause-memory : goal.returns-in_err-two-clause-memory
@@ -28,34 +29,33 @@ returns-in_err-given-clause-memory g c = on_err c.from_residual-in_err-given.res
     (g.S.Shell.runs c.reset.new.self) (g.E.Env.stands_for c.args.env.now) c.requires.mapped (c.reset.ensures.first d s before is)
     c.requires.first)
 
-pub play-requires-clause-begun : goal.play-requires-clause-begun
-play-requires-clause-begun g c = ∥∥₁_map (g.met.S.Shell.running c.args.shell.now) (λ (r : IsRunning (g.S.Shell.runs c.args.shell.now)). (
-  r.0,
-  begins r.0 c.args.map.now (g.S.Shell.map c.args.shell.now) (g.S.Shell.runs c.reset.new.self) c.requires.mapped
-      (c.reset.ensures.first r.0 r.1 r.2 r.3),
-))
+pub run_player-requires-clause-begun : goal.run_player-requires-clause-begun
+run_player-requires-clause-begun g c = ∥∥₁_map (g.met.S.Shell.running c.args.shell.now)
+    (λ (r : IsRunning (g.S.Shell.runs c.args.shell.now)). (
+    r.0,
+    has-begun r.0 c.args.map.now (g.S.Shell.map c.args.shell.now) (g.S.Shell.runs c.reset.new.self) c.requires.mapped
+    (c.reset.ensures.first r.0 r.1 r.2 r.3),
+    ))
 
 pub returns-clause-run : goal.returns-clause-run
 returns-clause-run g c d s before is =
-    let m = c.args.map.now in
-    let offer = g.E.Env.offer (g.E.Env.plan c.args.env.now) in
-    let ok = c.in_ok-ending.ensures.ok in
-    let plays = ok.4 d (begins d m (g.S.Shell.map c.args.shell.now) (g.S.Shell.runs c.reset.new.self) c.requires.mapped
-    (c.reset.ensures.first d s before is)) in
-    plain-as d m offer _ c.play.new.rows.last c.args.cycles ok.0 c.play.new.player.rows c.in_ok-ending.ending c.spot_of.result ok.1.1.kept_are
-    c.spot_of.ensures ok.3 plays.0 plays.1
+    let same : c.cells-2-1.given.0 ≡ c.run_player.new.player.cells.now = search rules in
+    plain-also d c.args.map.now (g.E.Env.offer (g.E.Env.plan c.args.env.now)) c.args.cycles c.run_player.new.player.cells.now.rows
+    c.cells-2-1.given.0.rows _ c.spot_of.result (ap (λ (x : PlainCells). x.rows) same) c.spot_of.ensures
+    (c.in_ok-ending.ensures.run d (has-begun d c.args.map.now (g.S.Shell.map c.args.shell.now) (g.S.Shell.runs c.reset.new.self)
+    c.requires.mapped (c.reset.ensures.first d s before is)))
 
 pub returns-clause-behind : goal.returns-clause-behind
 returns-clause-behind g c d s before is =
-    let m = c.args.map.now in
-    let offer = g.E.Env.offer (g.E.Env.plan c.args.env.now) in
-    let ok = c.in_ok-ending.ensures.ok in
-    let plays = ok.4 d (begins d m (g.S.Shell.map c.args.shell.now) (g.S.Shell.runs c.reset.new.self) c.requires.mapped
-    (c.reset.ensures.first d s before is)) in
-    goes-on d m offer (g.S.Shell.runs c.play.new.stage) c.play.new.rows.last ok.0 c.play.new.player.rows ok.1.1.kept_are plays.0
+    let same : c.cells-2-1.given.0 ≡ c.run_player.new.player.cells.now = search rules in
+    subst (GoesOn (g.S.Shell.runs c.run_player.new.shell) d c.args.map.now (g.E.Env.offer (g.E.Env.plan c.args.env.now)))
+    (sym (ap (λ (x : PlainCells). x.rows) same))
+    (c.in_ok-ending.ensures.behind d (has-begun d c.args.map.now (g.S.Shell.map c.args.shell.now) (g.S.Shell.runs c.reset.new.self)
+    c.requires.mapped (c.reset.ensures.first d s before is)))
 
-pub returns-clause-stands : goal.returns-clause-stands
-returns-clause-stands g c = ?
-
-pub returns-in_err-ending-clause-plan : goal.returns-in_err-ending-clause-plan
-returns-in_err-ending-clause-plan g c = ?
+pub returns-in_err-ending-clause-memory : goal.returns-in_err-ending-clause-memory
+returns-in_err-ending-clause-memory g c = on_err c.from_residual-in_err-ending.result (λ d s before is.
+    (let same : c.env-1.given.0 ≡ c.run_player.new.player.env.now = search rules in
+    subst (λ x. StandsWithin (g.E.Env.stands_for x) d c.args.map.now (g.E.Env.offer (g.E.Env.plan c.args.env.now)) c.args.cycles) (sym same)
+    (c.in_err-ending.ensures.memory d (has-begun d c.args.map.now (g.S.Shell.map c.args.shell.now) (g.S.Shell.runs c.reset.new.self)
+    c.requires.mapped (c.reset.ensures.first d s before is)))))

@@ -67,7 +67,7 @@ gather-requires-clause-places g c =
     let at = c.requires.4 in
     let player = c.args.self.now in
     let env = player.env.now in
-    offers-long first.map.now.channels player.map.now.channels (g.E.Env.current env) player.given.offers at.1.offers
+    offers-long first.map.now.channels player.map.now.channels (g.E.Env.current env) player.cells.now.given.offers at.1.offers
     (ap (λ (m : Map). m.channels) at.0.map)
     (fits-now first.map.now.channels (g.E.Env.channels env) (g.E.Env.current env) (g.E.Env.offer (g.E.Env.plan env) c.requires.1)
     at.0.channels (g.met.E.Env.offers_now env c.requires.1 at.1.stands) (g.met.E.Env.fits env c.requires.1))
@@ -77,6 +77,7 @@ returns-clause-stands g c first rows long at ruled = (
   record {
     map = at.0.map;
     name = at.0.name;
+    cells = at.0.cells;
     plan = c.commit.ensures.plan ∙ at.0.plan;
     channels = c.commit.ensures.channels ∙ at.0.channels;
     few = at.0.few;
@@ -95,6 +96,7 @@ returns-in_err-row-clause-broke g c = err-any c.from_residual.result (λ first r
   record {
     map = at.0.map;
     name = at.0.name;
+    cells = at.0.cells;
     plan = c.commit.ensures.plan ∙ at.0.plan;
     channels = c.commit.ensures.channels ∙ at.0.channels;
     few = at.0.few;
@@ -107,6 +109,7 @@ returns-in_err-push-clause-broke g c = err-any c.from_residual-in_err-push.resul
   record {
     map = at.0.map;
     name = at.0.name;
+    cells = at.0.cells;
     plan = c.commit.ensures.plan ∙ at.0.plan;
     channels = c.commit.ensures.channels ∙ at.0.channels;
     few = at.0.few;
