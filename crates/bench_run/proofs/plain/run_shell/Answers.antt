@@ -32,9 +32,9 @@ returns-in_err-given-clause-memory g c = on_err c.from_residual-in_err-given.res
 pub run_player-requires-clause-begun : goal.run_player-requires-clause-begun
 run_player-requires-clause-begun g c = ∥∥₁_map (g.met.S.Shell.running c.args.shell.now)
     (λ (r : IsRunning (g.S.Shell.runs c.args.shell.now)). (
-    r.0,
-    has-begun r.0 c.args.map.now (g.S.Shell.map c.args.shell.now) (g.S.Shell.runs c.reset.new.self) c.requires.mapped
-    (c.reset.ensures.first r.0 r.1 r.2 r.3),
+      r.0,
+      has-begun r.0 c.args.map.now (g.S.Shell.map c.args.shell.now) (g.S.Shell.runs c.reset.new.self) c.requires.mapped
+          (c.reset.ensures.first r.0 r.1 r.2 r.3),
     ))
 
 pub returns-clause-run : goal.returns-clause-run
