@@ -1,202 +1,163 @@
--- A plain run, one row longer, and its end.
-use Rattle.std.proofs.Common.{◌≡◌, ℕ, zero, suc, ◌<◌, ◌≤◌, List, [], ◌∷◌, ◌++◌, Option, Some, None, length, slice_get}
-use Rattle.std.proofs.Common.{⊎_elim, false, refl, ap, sym}
-use Rattle.std.proofs.Common.{subst, ◌∙◌, arith, Result, Ok, Err}
-use Rattle.std.specs.Prelude.{OnErr}
-use Rattle.std.proofs.lemmas.Option.{same_Some}
-use Rattle.env_script.proofs.trace_model_lemmas.RowLemmas.{before-last}
+-- The player of a plain run between two cycles, and what its run is.
+use Rattle.std.proofs.Common.{◌≡◌, ℕ, ◌<◌, ◌≤◌, ◌^◌, false, List, [], ◌∷◌, ◌++◌, Option, Some, None, length, slice_get, refl, ap, sym, subst, ◌∙◌, arith}
+use Rattle.std.proofs.Common.{Result, Ok, Err}
+use Rattle.std.specs.Prelude.{OnErr, IfErr, IfOk, Bool}
+use Rattle.std.proofs.Math.Logic.{∥∥₁_elim}
+use Rattle.std.proofs.Props.{props}
 use Rattle.env_script.specs.trace_model.declared.channel.Channel.{Channel}
 use Rattle.env_script.specs.trace_model.declared.row.Offers.{Offers}
 use Rattle.env_script.specs.trace_model.declared.row.Row.{Row}
-use Rattle.env_script.specs.trace_model.Row.{row_before, IsOver}
-use Rattle.env_script.specs.trace_model.Stability.{IsUnstable, IsUnstableAt}
-use Rattle.env_script.proofs.trace_model_lemmas.CountingLemmas.{slice_get-append_left, slice_get-last, slice_get-push}
+use Rattle.env_script.specs.trace_model.Row.{all_widths, row_before, AreOffers}
+use Rattle.env_script.proofs.trace_model_lemmas.ContentsLemmas.{fit-length}
 use Rattle.net_design.specs.declared.design.Design.{Design}
 use Rattle.net_design.specs.declared.values.Values.{Values}
-use Rattle.chan_monitor.specs.chan_map.declared.pins.Map.{Map}
-use Rattle.chan_monitor.specs.run_model.Offers.{Carries as RunCarries}
-use Rattle.chan_monitor.specs.run_model.Played.{all_up, AreStable}
-use Rattle.chan_monitor.specs.run_model.Run.{AllUp, IsRunRow}
-use Rattle.chan_monitor.specs.run_model.Step.{IsFirst, IsStep}
-use Rattle.chan_monitor.proofs.run_model_lemmas.PlayedLaws.{Grown, played-nil, played-push}
-use Rattle.env_script.specs.Offer.{Offer, Carries, FitsOffer}
-use Rattle.chan_monitor.specs.Shell.{IsShown}
+use Rattle.run_stage.specs.chan_map.declared.pins.Map.{Map}
+use Rattle.run_stage.specs.run_model.Offers.{AreZeroWhileDown, Carries as RunCarries}
+use Rattle.run_stage.specs.run_model.Played.{all_up, IsPlayed}
+use Rattle.run_stage.specs.run_model.Run.{AllUp, IsRunRow}
+use Rattle.run_stage.specs.run_model.Step.{IsFirst}
+use Rattle.run_stage.proofs.run_model_lemmas.PlayedLaws.{played-nil}
+use Rattle.run_stage.proofs.run_model_lemmas.ReplayLaws.{all-up-below}
+use Rattle.env_script.specs.Offer.{Offer, Carries, EndsAreCompletions, FitsOffer}
 use Rattle.env_script.specs.Offered.{offers_after, offers_on, AllFit}
-use Rattle.env_script.proofs.OfferLaws.{carries-each}
-use Rattle.bench_run.specs.Plain.{GoesOn, IsBreak, IsPlainRun, IsRunAllUp, StandsBehind, StandsWithin}
+use Rattle.env_script.proofs.OfferLaws.{are-offers, are-zero, carries-each}
+use Rattle.run_stage.specs.declared.ending.Ending.{Ending}
+use Rattle.run_stage.specs.declared.ending.Ending.TheVariants.{Whole, Done, Unstable}
+use Rattle.run_stage.specs.declared.given.Gated.{Gated}
+use Rattle.run_stage.specs.Given.{FitsGates, IsGatedRow}
+use Rattle.run_stage.specs.Playing.{AreRuled, Came, Plays, Stops}
+use Rattle.run_stage.proofs.Turning.{last-of, stable-nil}
+use Rattle.bench_run.specs.Playing.{HasBegun}
+use Rattle.bench_run.specs.Plain.{spot_of, GoesOn, IsPlainRun, IsRunAllUp, StandsBehind, StandsWithin}
+use Rattle.bench_run.specs.declared.plain.Spot.{Spot}
 
--- ---- the row before
-before-append : (rows : List Row) (row : Row) (t : ℕ) → t ≤ length rows → row_before (rows ++ row ∷ []) t ≡ row_before rows t
-before-append rows row zero l = refl
-before-append rows row (suc t) l = slice_get-append_left rows (row ∷ []) t (omega (arith, l))
-
--- ---- stability
-unbroken : (channels : List Channel) (o : Option Row) (row before : Row) → IsBreak channels o row None → o ≡ Some before
-    → (c : ℕ) → ¬ IsUnstable channels before row c
-unbroken channels None row before b e = absurd (cc)
-unbroken channels (Some x) row before b e =
-    subst (λ (y : Row). (c : ℕ) → ¬ IsUnstable channels y row c) (same_Some x before e) b
-
-stable-push : (channels : List Channel) (rows : List Row) (row : Row) → AreStable channels rows
-    → IsBreak channels (row_before rows (length rows)) row None → AreStable channels (rows ++ row ∷ [])
-stable-push channels rows row stable b t before now was at = ⊎_elim
-    (λ (h : (t < length rows) × (slice_get rows t ≡ Some now)).
-    stable t before now (sym (before-append rows row t (let l = h.0 in omega (arith, l))) ∙ was) h.1)
-    (λ (h : (t ≡ length rows) × (row ≡ now)).
-    subst (λ (y : Row). (c : ℕ) → ¬ IsUnstable channels before y c) h.1
-    (unbroken channels (row_before rows (length rows)) row before b
-    (ap (row_before rows) (sym h.0) ∙ sym (before-append rows row t (let e = h.0 in omega (arith, e))) ∙ was)))
-    (slice_get-push rows row now t at)
-
-unstable-at : (channels : List Channel) (rows : List Row) (row : Row) (c : ℕ) (o : Option Row) → row_before rows (length rows) ≡ o
-    → IsBreak channels o row (Some c) → IsUnstableAt channels (rows ++ row ∷ []) (length rows) c
-unstable-at channels rows row c None e b = absurd b
-unstable-at channels rows row c (Some before) e b = record {
-  before = before;
-  now = row;
-  before_is = before-append rows row (length rows) (omega arith) ∙ e;
-  now_is = slice_get-last rows row;
-  lowest = b;
-}
-
--- ---- the run so far
+-- ---- what the environment offers now
 abbrev pub rule : Map → (List Row → ℕ → Offer) → List Row → Row → Type 0
 rule m offer = IsRunRow m.channels (offers_after m.channels offer) (AllUp m.channels)
 
--- the rows are the run's, and it goes on in this state
-pub record Going (runs : Design → Values → Option Row → Type 0) (d : Design) (m : Map) (offer : List Row → ℕ → Offer) (rows : List Row)
-    : Type 0 where
-  pub now : Values
-  pub grown : Grown d m (rule m offer) rows now
-  pub stable : AreStable m.channels rows
-  pub runs_on : runs d now (row_before rows (length rows))
-
-pub going-first : (runs : Design → Values → Option Row → Type 0) (d : Design) (m : Map) (offer : List Row → ℕ → Offer) (rows : List Row)
-    (first : Values) → IsFirst d m first → runs d first None → rows ≡ [] → Going runs d m offer rows
-going-first runs d m offer rows first is on e = subst (Going runs d m offer) (sym e) (record {
-  now = first;
-  grown = played-nil d m (rule m offer) first is;
-  stable = λ t before now was at. absurd (cc);
-  runs_on = on;
-})
-
--- a row more, whatever the state after it
-pub record Shown (d : Design) (m : Map) (offer : List Row → ℕ → Offer) (now : Values) (rows : List Row) (row : Row) : Type 0 where
-  pub shown : IsShown d m now (row_before rows (length rows)) (offers_after m.channels offer rows) (all_up m.channels) row
-  pub fresh : row.fresh ≡ false
-
-pub shown-of : (d : Design) (m at : Map) (channels : List Channel) (offer : List Row → ℕ → Offer) (offers : Offers) (now : Values)
-    (rows : List Row) (row : Row) → at ≡ m → channels ≡ m.channels → offers ≡ offers_after m.channels offer rows
-    → IsShown d at now (row_before rows (length rows)) offers (all_up channels) row → row.fresh ≡ false → Shown d m offer now rows row
-shown-of d m at channels offer offers now rows row same table o shown fresh = record {
-  shown = subst (λ (n : Map). IsShown d n now (row_before rows (length rows)) (offers_after m.channels offer rows) (all_up m.channels) row)
-      same (subst (λ (xs : List Channel). IsShown d at now (row_before rows (length rows)) (offers_after m.channels offer rows) (all_up
-      xs) row) table (subst (λ (x : Offers). IsShown d at now (row_before rows (length rows)) x (all_up channels) row) o shown));
-  fresh = fresh;
-}
-
-grown-push : (d : Design) (m : Map) (offer : List Row → ℕ → Offer) (rows : List Row) (now : Values) → Grown d m (rule m offer) rows now
-    → (row : Row) (after : Values) → Shown d m offer now rows row → IsStep d m now row after
-    → Grown d m (rule m offer) (rows ++ row ∷ []) after
-grown-push d m offer rows now grown row after s step =
-    played-push d m (rule m offer) rows row after grown.played (s.shown.carries, s.shown.gates_are, s.fresh) s.shown.over s.shown.marked
-    (subst (λ u. IsStep d m u row after) (sym grown.state) step)
-
-pub going-on : (runs then : Design → Values → Option Row → Type 0) (d : Design) (m at : Map) (offer : List Row → ℕ → Offer)
-    (rows new : List Row) (row : Row) → (going : Going runs d m offer rows) → Shown d m offer going.now rows row → at ≡ m
-    → (after : Values) → IsStep d at going.now row after → then d after (Some row)
-    → IsBreak m.channels (row_before rows (length rows)) row None → new ≡ rows ++ row ∷ [] → Going then d m offer new
-going-on runs then d m at offer rows new row going s same after step on b e = subst (Going then d m offer) (sym e) (record {
-  now = after;
-  grown = grown-push d m offer rows going.now going.grown row after s
-      (subst (λ (n : Map). IsStep d n going.now row after) same step);
-  stable = stable-push m.channels rows row going.stable b;
-  runs_on = subst (then d after) (sym (before-last rows row)) on;
-})
-
--- ---- behind it
-pub goes-on : (runs then : Design → Values → Option Row → Type 0) (d : Design) (m : Map) (offer : List Row → ℕ → Offer) (rows : List Row)
-    → ((s : Values) → runs d s (row_before rows (length rows)) → then d s (row_before rows (length rows)))
-    → Going runs d m offer rows → GoesOn then d m offer rows
-goes-on runs then d m offer rows on going = (
-  going.grown.played,
-  subst (λ (s : Values). then d s (row_before rows (length rows))) (sym going.grown.state) (on going.now going.runs_on),
-)
-
--- ---- its end
-pub ends : (runs : Design → Values → Option Row → Type 0) (d : Design) (m : Map) (offer : List Row → ℕ → Offer) (rows : List Row) (n : ℕ)
-    → Going runs d m offer rows → length rows ≡ n → IsPlainRun d m offer n (record { rows = rows; unstable = None })
-ends runs d m offer rows n going count = record { played = (going.grown.played, going.stable, count); cycle = tt }
-
-pub breaks : (runs : Design → Values → Option Row → Type 0) (d : Design) (m : Map) (offer : List Row → ℕ → Offer) (rows : List Row)
-    (row : Row) (c cycle n : ℕ) → (going : Going runs d m offer rows) → Shown d m offer going.now rows row
-    → IsBreak m.channels (row_before rows (length rows)) row (Some c) → length rows ≡ cycle → cycle < n
-    → IsPlainRun d m offer n (record { rows = rows; unstable = Some (record { channel = c; cycle = cycle }) })
-breaks runs d m offer rows row c cycle n going s b count l = record {
-  played = (
-    record {
-      next = row;
-      played = (grown-push d m offer rows going.now going.grown row s.shown.after s s.shown.step).played;
-      stable = going.stable;
-      unstable = unstable-at m.channels rows row c (row_before rows (length rows)) refl b;
-    },
-    omega (arith, count, l),
-  );
-  cycle = sym count;
-}
-
-pub stands-within : (runs : Design → Values → Option Row → Type 0) (stands_for : List Row → Type 0) (d : Design) (m : Map)
-    (offer : List Row → ℕ → Offer) (rows : List Row) (n : ℕ) → Going runs d m offer rows → stands_for rows → length rows ≤ n
-    → StandsWithin stands_for d m offer n
-stands-within runs stands_for d m offer rows n going stands few = record {
-  rows = rows;
-  stands = stands;
-  played = going.grown.played;
-  stable = going.stable;
-  few = few;
-}
-
--- the rows so far are over the channels
-pub rows-over : (runs : Design → Values → Option Row → Type 0) (d : Design) (m : Map) (offer : List Row → ℕ → Offer) (rows : List Row)
-    (channels : List Channel) → channels ≡ m.channels → Going runs d m offer rows → (t : ℕ) (row : Row) → slice_get rows t ≡ Some row
-    → IsOver channels row
-rows-over runs d m offer rows channels same going t row at =
-    subst (λ (xs : List Channel). IsOver xs row) (sym same) (going.grown.played.marked t row at).0
-
--- ---- what the environment offers now
 ext : (f h : ℕ → Offer) → ((c : ℕ) → f c ≡ h c) → f ≡ h
 ext f h e = λ i c. e c i
 
-pub fits-now : (channels : List Channel) (current offer : ℕ → Offer) → ((c : ℕ) → current c ≡ offer c)
-    → ((c : ℕ) (x : Channel) → slice_get channels c ≡ Some x → FitsOffer x (offer c)) → AllFit channels current
-fits-now channels current offer same fit c x at = subst (FitsOffer x) (sym (same c)) (fit c x at)
+pub fits-now : (channels given : List Channel) (current offer : ℕ → Offer) → given ≡ channels → ((c : ℕ) → current c ≡ offer c)
+    → ((c : ℕ) (x : Channel) → slice_get given c ≡ Some x → FitsOffer x (offer c)) → AllFit channels current
+fits-now channels given current offer same e fit = subst (λ (cs : List Channel). AllFit cs current) same
+    (λ c x at. subst (FitsOffer x) (sym (e c)) (fit c x at))
 
-pub offers-now : {P : Type 0} (channels table : List Channel) (current : ℕ → Offer) (offer : P → List Row → ℕ → Offer) (p q : P)
-    (rows : List Row) → ((c : ℕ) → current c ≡ offer p rows c) → p ≡ q → channels ≡ table
-    → offers_on channels current ≡ offers_after table (offer q) rows
-offers-now channels table current offer p q rows same plan e =
-    ap (offers_on channels) (ext current (offer p rows) same) ∙ ap (λ x. offers_on channels (offer x rows)) plan
-    ∙ ap (λ xs. offers_on xs (offer q rows)) e
+-- ---- what is given
+module _ (channels : List Channel) (current : ℕ → Offer) (given : Gated) (offers : given.offers ≡ offers_on channels current)
+    (gates : given.gates ≡ all_up channels) where
+  pub given-fits : AllFit channels current → FitsGates channels given
+  given-fits fits = record {
+    offers = subst (AreOffers channels) (sym offers) (are-offers channels current fits);
+    zeros = subst (AreZeroWhileDown channels) (sym offers) (are-zero channels current fits);
+    gates = subst (λ n. n < 2 ^ length channels) (sym gates) (all-up-below (length channels));
+  }
 
--- a row that carries these offers, as an environment says it
-pub carries-now : (xs ys zs : List Channel) (offer : ℕ → Offer) (row : Row) → xs ≡ zs → ys ≡ zs → AllFit zs offer
-    → RunCarries xs (offers_on ys offer) row → Carries zs offer row
-carries-now xs ys zs offer row ex ey fit carries =
-    carries-each zs offer fit row (subst (λ v. RunCarries zs (offers_on v offer) row) ey
-    (subst (λ v. RunCarries v (offers_on ys offer) row) ex carries))
+  pub given-ruled : (offer : List Row → ℕ → Offer) (rows : List Row) (row : Row) → ((c : ℕ) → current c ≡ offer rows c)
+      → IsGatedRow channels given row → row.fresh ≡ false
+      → IsRunRow channels (offers_after channels offer) (AllUp channels) rows row
+  given-ruled offer rows row now is unmarked = (
+    subst (λ os. RunCarries channels os row) (offers ∙ ap (offers_on channels) (ext current (offer rows) now)) is.carries,
+    is.gates_are ∙ gates,
+    unmarked,
+  )
 
--- the row before is one of them
-pub before-over : (channels : List Channel) (rows : List Row)
-    → ((t : ℕ) (row : Row) → slice_get rows t ≡ Some row → IsOver channels row) → (n : ℕ) (before : Row)
-    → Some before ≡ row_before rows n → IsOver channels before
-before-over channels rows over zero before e = absurd (cc)
-before-over channels rows over (suc n) before e = over n before (sym e)
+pub offers-long : (channels given : List Channel) (current : ℕ → Offer) (offers : Offers) → offers ≡ offers_on channels current
+    → given ≡ channels → AllFit channels current → length offers.contents ≡ length (all_widths given)
+offers-long channels given current offers e same fits =
+    let are = subst (AreOffers channels) (sym e) (are-offers channels current fits) in
+    sym (fit-length (all_widths channels) offers.contents are.contents) ∙ ap (λ (cs : List Channel). length (all_widths cs)) (sym same)
+
+-- ---- the row that is kept
+module _ (m : Map) (offer : List Row → ℕ → Offer) (rows : List Row) (row : Row) (are : AreRuled m (rule m offer) (rows ++ row ∷ [])) where
+  pub carries-last : (given : List Channel) (current : ℕ → Offer) → given ≡ m.channels → ((c : ℕ) → current c ≡ offer rows c)
+      → AllFit m.channels (offer rows) → Carries given current row
+  carries-last given current same now fit = subst (λ (cs : List Channel). Carries cs current row) (sym same)
+      (subst (λ (o : ℕ → Offer). Carries m.channels o row) (sym (ext current (offer rows) now)) carries)
+    where
+      carries : Carries m.channels (offer rows) row
+      carries = ∥∥₁_elim are.played (hlevel props) (λ (x : (d : Design) × IsPlayed d m (rule m offer) (rows ++ row ∷ [])).
+          carries-each m.channels (offer rows) fit row (last-of x.0 m (rule m offer) rows row x.1).ruled.0)
+
+  pub ends-last : EndsAreCompletions row
+  ends-last = ∥∥₁_elim are.played (hlevel props) (λ (x : (d : Design) × IsPlayed d m (rule m offer) (rows ++ row ∷ [])).
+      (last-of x.0 m (rule m offer) rows row x.1).marked.ends)
+
+-- ---- its end
+pub plain-as : (d : Design) (m : Map) (offer : List Row → ℕ → Offer) (runs : Design → Values → List Row → Type 0) (last : Row) (n : ℕ)
+    (rows kept : List Row) (ending : Ending) (spot : Option Spot) → kept ≡ rows → spot ≡ spot_of ending
+    → Came (λ _ over. over ≡ false) n rows ending → Plays d m (rule m offer) runs last rows → Stops d m (rule m offer) rows ending
+    → IsPlainRun d m offer n (record { rows = kept; unstable = spot })
+plain-as d m offer runs last n rows kept ending spot e at came plays stops =
+    subst (λ (x : Option Spot). IsPlainRun d m offer n (record { rows = kept; unstable = x })) (sym at)
+    (subst (λ (rs : List Row). IsPlainRun d m offer n (record { rows = rs; unstable = spot_of ending })) (sym e) (plain ending came stops))
+  where
+    plain : (ending : Ending) → Came (λ _ over. over ≡ false) n rows ending → Stops d m (rule m offer) rows ending
+        → IsPlainRun d m offer n (record { rows = rows; unstable = spot_of ending })
+    plain Whole came stops = record { played = (plays.played, plays.stable, came.0); cycle = tt }
+    plain (Done cycles) came stops = absurd (cc)
+    plain (Unstable channel cycle) came stops = record { played = (stops, came.1); cycle = sym came.0 }
+
+-- ---- a shell as a stage
+abbrev pub stage_runs : (Design → Values → Option Row → Type 0) → Design → Values → List Row → Type 0
+stage_runs runs d s rows = runs d s (row_before rows (length rows))
+
+pub has-begun : (d : Design) (m given : Map) (runs : Design → Values → Option Row → Type 0) → given ≡ m → HasBegun d given runs
+    → HasBegun d m runs
+has-begun d m given runs same (first, is, on) = (first, subst (λ (n : Map). IsFirst d n first) same is, on)
+
+-- by the answer
+pub of-either : {A E : Type 0} (r : Result A E) (P : Type 0) (Q : A → Type 0) (S : E → Type 0) → IfOk r Q → IfErr r S
+    → ((x : A) → Q x → P) → ((e : E) → S e → P) → P
+of-either (Ok x) P Q S q s f h = f x q
+of-either (Err e) P Q S q s f h = h e s
+
+pub if-err : {A E : Type 0} (r : Result A E) (Q S : E → Type 0) → IfErr r Q → ((e : E) → Q e → S e) → IfErr r S
+if-err (Ok x) Q S q f = tt
+if-err (Err e) Q S q f = f e q
+
+pub goes-on : (d : Design) (m : Map) (offer : List Row → ℕ → Offer) (runs : Design → Values → Option Row → Type 0) (last : Row)
+    (rows kept : List Row) → kept ≡ rows → Plays d m (rule m offer) (stage_runs runs) last rows → GoesOn runs d m offer kept
+goes-on d m offer runs last rows kept e plays = subst (GoesOn runs d m offer) (sym e) (plays.played, plays.at)
+
+pub stands-within : (d : Design) (m : Map) (offer : List Row → ℕ → Offer) (n : ℕ) (runs : Design → Values → List Row → Type 0) (last : Row)
+    (stands_for : List Row → Type 0) (rows : List Row) → stands_for rows → length rows ≤ n → Plays d m (rule m offer) runs last rows
+    → StandsWithin stands_for d m offer n
+stands-within d m offer n runs last stands_for rows stands few plays = record {
+  rows = rows;
+  stands = stands;
+  played = plays.played;
+  stable = plays.stable;
+  few = few;
+}
+
+pub nothing-yet : (d : Design) (m given : Map) (offer : List Row → ℕ → Offer) (n : ℕ) (runs : Design → Values → Option Row → Type 0)
+    (stands_for : List Row → Type 0) → given ≡ m → HasBegun d given runs → stands_for []
+    → StandsWithin stands_for d m offer n
+nothing-yet d m given offer n runs stands_for same begun stands = record {
+  rows = [];
+  stands = stands;
+  played = (played-nil d m (rule m offer) begun.0 (subst (λ (k : Map). IsFirst d k begun.0) same begun.1)).played;
+  stable = stable-nil m.channels;
+  few = omega arith;
+}
+
+pub plain-also : (d : Design) (m : Map) (offer : List Row → ℕ → Offer) (n : ℕ) (rows kept : List Row) (was spot : Option Spot) → kept ≡ rows
+    → spot ≡ was → IsPlainRun d m offer n (record { rows = rows; unstable = was })
+    → IsPlainRun d m offer n (record { rows = kept; unstable = spot })
+plain-also d m offer n rows kept was spot e at is =
+    subst (λ (x : Option Spot). IsPlainRun d m offer n (record { rows = kept; unstable = x })) (sym at)
+    (subst (λ (rs : List Row). IsPlainRun d m offer n (record { rows = rs; unstable = was })) (sym e) is)
+
+pub err-any : {A E P : Type 0} (r : Result A E) → P → IfErr r (λ _. P)
+err-any (Ok x) p = tt
+err-any (Err e) p = p
 
 pub if-error : {T E P Q : Type 0} (r : Result T E) → OnErr r P → (P → Q) → OnErr r Q
 if-error (Ok x) p then = tt
 if-error (Err e) p then = then p
 
 -- ---- the block that the shell borrows
-pub stands-behind : (state : Values) (d : Design) (m n : Map) (offer : List Row → ℕ → Offer) (rows : List Row) (run : IsRunAllUp d m offer rows)
-    → m ≡ n → state ≡ run.driven.state (length rows) → StandsBehind state d n offer rows
-stands-behind state d m n offer rows run e is = subst (λ (k : Map). StandsBehind state d k offer rows) e (run, sym is)
+pub stands-behind : (state : Values) (d : Design) (m : Map) (offer : List Row → ℕ → Offer) (rows : List Row) (run : IsRunAllUp d m offer rows)
+    → state ≡ run.driven.state (length rows) → StandsBehind state d m offer rows
+stands-behind state d m offer rows run is = (run, sym is)

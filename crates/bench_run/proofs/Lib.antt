@@ -1,3 +1,3 @@
 pub mod Growing
 pub mod PlainLaws
-pub use Rattle.chan_monitor.proofs.run_model_lemmas as run_model_lemmas
+pub use Rattle.run_stage.proofs.run_model_lemmas as run_model_lemmas

@@ -2,17 +2,17 @@
 use Rattle.std.proofs.Common.{◌≡◌, ℕ, List, Option, None, Some, length, refl, ap, sym, subst, ◌∙◌}
 use Rattle.std.specs.Prelude.{IfSome}
 use Rattle.std.proofs.Math.Logic.{∥∥₁_map}
-use Rattle.chan_monitor.specs.vidi_bits.Number.{has}
+use Rattle.run_stage.specs.chan_monitor.vidi_bits.Number.{has}
 use Rattle.env_script.specs.trace_model.declared.channel.Channel.{Channel}
 use Rattle.env_script.specs.trace_model.declared.row.Row.{Row}
-use Rattle.chan_monitor.specs.run_model.Played.{all_up}
-use Rattle.chan_monitor.specs.run_model.Run.{AllUp, IsTheRun}
-use Rattle.chan_monitor.proofs.run_model_lemmas.Ends.{the-run}
-use Rattle.chan_monitor.proofs.run_model_lemmas.ReplayLaws.{all-up-below}
-use Rattle.chan_monitor.proofs.run_model_lemmas.RunLaws.{kept, one-of_length, run-keeps, GatesAreFixed, StayUp}
-use Rattle.chan_monitor.proofs.run_model_lemmas.Stops.{one-that_ends}
+use Rattle.run_stage.specs.run_model.Played.{all_up}
+use Rattle.run_stage.specs.run_model.Run.{AllUp, IsTheRun}
+use Rattle.run_stage.proofs.run_model_lemmas.Ends.{the-run}
+use Rattle.run_stage.proofs.run_model_lemmas.ReplayLaws.{all-up-below}
+use Rattle.run_stage.proofs.run_model_lemmas.RunLaws.{kept, one-of_length, run-keeps, GatesAreFixed, StayUp}
+use Rattle.run_stage.proofs.run_model_lemmas.Stops.{one-that_ends}
 use Rattle.net_design.specs.declared.design.Design.{Design}
-use Rattle.chan_monitor.specs.chan_map.declared.pins.Map.{Map}
+use Rattle.run_stage.specs.chan_map.declared.pins.Map.{Map}
 use Rattle.env_script.specs.Offer.{Offer}
 use Rattle.env_script.specs.Offered.{offers_after}
 use Rattle.env_script.proofs.Lasting.{offers-fit, offers-stay}

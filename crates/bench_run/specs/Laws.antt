@@ -2,8 +2,8 @@
 use Rattle.std.specs.Prelude.{◌≡◌, ℕ, List}
 use Rattle.env_script.specs.trace_model.declared.row.Row.{Row}
 use Rattle.net_design.specs.declared.design.Design.{Design}
-use Rattle.chan_monitor.specs.chan_map.declared.pins.Map.{Map}
-use Rattle.chan_monitor.specs.run_model.Laws.{ContentsStay, IsReady, OneOfLength}
+use Rattle.run_stage.specs.chan_map.declared.pins.Map.{Map}
+use Rattle.run_stage.specs.run_model.Laws.{ContentsStay, IsReady, OneOfLength}
 use Rattle.env_script.specs.Offer.{Offer}
 use Rattle.env_script.specs.Offered.{AreLasting}
 use Rattle.bench_run.specs.declared.plain.PlainRun.{PlainRun}

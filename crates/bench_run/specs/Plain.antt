@@ -1,16 +1,16 @@
 -- *IsRun* with all gates up, as an answer, and *Unstable*'s place.
 use Rattle.std.specs.Prelude.{◌≡◌, ℕ, ◌≤◌, List, Option, Some, None, IfSome, length}
-use Rattle.env_script.specs.trace_model.declared.channel.Channel.{Channel}
 use Rattle.env_script.specs.trace_model.declared.row.Row.{Row}
 use Rattle.env_script.specs.trace_model.Row.{row_before}
-use Rattle.env_script.specs.trace_model.Stability.{IsLowestUnstable}
 use Rattle.net_design.specs.declared.design.Design.{Design}
 use Rattle.net_design.specs.declared.values.Values.{Values}
-use Rattle.chan_monitor.specs.chan_map.declared.pins.Map.{Map}
-use Rattle.chan_monitor.specs.run_model.Played.{AreStable}
-use Rattle.chan_monitor.specs.run_model.Run.{AllUp, IsRun, IsTheRun}
+use Rattle.run_stage.specs.chan_map.declared.pins.Map.{Map}
+use Rattle.run_stage.specs.run_model.Played.{AreStable}
+use Rattle.run_stage.specs.run_model.Run.{AllUp, IsRun, IsTheRun}
 use Rattle.env_script.specs.Offer.{Offer}
 use Rattle.env_script.specs.Offered.{offers_after}
+use Rattle.run_stage.specs.declared.ending.Ending.{Ending}
+use Rattle.run_stage.specs.declared.ending.Ending.TheVariants.{Whole, Done, Unstable}
 use Rattle.bench_run.specs.declared.plain.PlainRun.{PlainRun}
 use Rattle.bench_run.specs.declared.plain.Spot.{Spot}
 
@@ -49,8 +49,8 @@ GoesOn runs d m offer rows = (run : IsRunAllUp d m offer rows) × runs d (run.dr
 abbrev pub StandsBehind : Values → Design → Map → (List Row → ℕ → Offer) → List Row → Type 0
 StandsBehind state d m offer rows = (run : IsRunAllUp d m offer rows) × (run.driven.state (length rows) ≡ state)
 
--- the lowest channel on which a row is unstable after the row before it, or none; a row with none before it is stable
-abbrev pub IsBreak : List Channel → Option Row → Row → Option ℕ → Type 0
-IsBreak channels None now None = Unit {0}
-IsBreak channels None now (Some c) = ⊥
-IsBreak channels (Some before) now lowest = IsLowestUnstable channels before now lowest
+-- where the row is unstable that ends the cycles
+abbrev pub spot_of : Ending → Option Spot
+spot_of Whole = None
+spot_of (Done cycles) = None
+spot_of (Unstable channel cycle) = Some (record { channel = channel; cycle = cycle })

@@ -6,11 +6,12 @@
 mod laws;
 mod lent;
 mod plain;
+mod player;
 
-pub use chan_monitor;
-pub use chan_monitor::{chan_map, vidi_bits};
 pub use env_script;
 pub use env_script::trace_model;
 pub use laws::{one_plain_run, plain_run_keeps_contents};
 pub use lent::Lent;
 pub use plain::{PlainRun, Spot, run_plain};
+pub use run_stage::chan_monitor;
+pub use run_stage::chan_monitor::{chan_map, vidi_bits};

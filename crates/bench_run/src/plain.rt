@@ -1,26 +1,25 @@
 //! The plain run.
 
-ghost use Rattle.std.specs.Prelude.{◌≡◌, ◌≤◌, ◌⊎◌, [], ℕ, false, Option, None, Some, length, slice_get, IfOk, OnErr};
-ghost use Rattle.std.specs.Option.{option_copied};
+ghost use Rattle.std.specs.Prelude.{◌≡◌, ◌≤◌, ◌⊎◌, [], Option, length, IfOk, IfErr, OnErr};
 ghost use Rattle.env_script.specs.trace_model.declared.row.Row.{Row as OneRow};
-ghost use Rattle.env_script.specs.trace_model.Row.{all_widths, row_before, IsOver};
 ghost use Rattle.net_design.specs.declared.design.Design.{Design};
 ghost use Rattle.net_design.specs.declared.values.Values.{Values};
-ghost use Rattle.chan_monitor.specs.run_model.Building.{PortsAreNets};
-ghost use Rattle.chan_monitor.specs.run_model.MapOf.{IsMapOf};
-ghost use Rattle.chan_monitor.specs.run_model.Played.{all_up};
-ghost use Rattle.chan_monitor.specs.Shell.{IsRunning, IsShown};
-ghost use Rattle.env_script.specs.Offered.{offers_on, AllFit};
-ghost use Rattle.bench_run.specs.Plain.{GoesOn, IsBreak, IsPlainRun, StandsBehind, StandsWithin};
+ghost use Rattle.run_stage.specs.run_model.Building.{PortsAreNets};
+ghost use Rattle.run_stage.specs.run_model.MapOf.{IsMapOf};
+ghost use Rattle.run_stage.specs.Playing.{AreOver};
+ghost use Rattle.bench_run.specs.Playing.{HasBegun, IsAt};
+ghost use Rattle.bench_run.specs.Plain.{spot_of, GoesOn, IsPlainRun, StandsBehind, StandsWithin};
 ghost use Rattle.env_script.specs.trace_model.declared.packet.TheConstants.{MOST_CHANNELS, MOST_CYCLES};
 
 use crate::lent::Lent;
-use chan_monitor::chan_map::Map;
-use chan_monitor::vidi_bits::{Items, Memory};
-use chan_monitor::{Machines, Shell};
-use env_script::trace_model::{Channels, Offers, Row, Rows, all_up, unstable};
-use env_script::{Env, gather, offers_over};
+use crate::player::{PlainCells, PlainPlayer, given_now};
+use env_script::Env;
+use env_script::trace_model::Rows;
 use net_design::Block;
+use run_stage::chan_map::Map;
+use run_stage::chan_monitor::vidi_bits::Memory;
+use run_stage::chan_monitor::{Machines, Shell};
+use run_stage::{Ending, TwoRows, play};
 use std::alloc::Global;
 
 /// A channel in a cycle.
@@ -41,115 +40,89 @@ pub struct PlainRun {
     pub unstable: Option<Spot>,
 }
 
-/// The row before the next one, if there is one.
-fn row_before(rows: &Rows) -> Option<&Row>
-    ensures { option_copied result ≡ row_before rows.now (length rows.now) }
+/// Where the row is unstable that ends a run.
+fn spot_of(ending: Ending) -> Option<Spot>
+    ensures { result ≡ spot_of ending }
 {
-    match rows.len() {
-        0 => None,
-        count => rows.get(count - 1),
+    match ending {
+        Ending::Unstable { channel, cycle } => Some(Spot { channel, cycle }),
+        Ending::Whole | Ending::Done { .. } => None,
     }
 }
 
-/// The lowest channel on which a row is unstable after these.
-fn break_after(rows: &Rows, row: &Row, channels: &Channels) -> Option<usize>
-    requires rows { (t : ℕ) (r : OneRow) → slice_get rows.now t ≡ Some r → IsOver channels.now r }
-    requires row { IsOver channels.now row.now }
-    ensures { IsBreak channels.now (row_before rows.now (length rows.now)) row.now result }
-{
-    match row_before(rows) {
-        Some(before) => unstable(before, row, channels),
-        None => None,
-    }
-}
-
-/// A row with as many places for numbers as the offers have, in which nothing is up. It isn't fresh. Its memory is taken at once.
-fn row_for(alloc: Global, offers: &Offers) -> Result<Row, Memory>
-    ensures places { IfOk result (λ row. length row.contents ≡ length offers.now.contents) }
-    ensures fresh { IfOk result (λ row. row.fresh ≡ false) }
-{
-    let contents = vec![in alloc; 0u128; offers.contents.len()]?;
-    Ok(Row {
-        fresh: false,
-        gates: 0,
-        valids: 0,
-        readies: 0,
-        contents: Items::from_vec(contents),
-        starts: 0,
-        ends: 0,
-    })
-}
-
-/// The row of the next cycle, which the shell was driven with.
-fn next_row<S: Shell, E: Env>(
-    alloc: Global,
+/// Plays the cycles of a plain run on a shell that was reset.
+fn run_player<S: Shell, E: Env>(
     shell: &mut S,
-    channels: &Channels,
-    env: &E,
-    offers: &mut Offers,
-) -> Result<Row, Memory>
-    requires channels { channels.now ≡ (S.map shell.old).channels }
-    requires same { channels.now ≡ E.channels env.now }
-    requires few { length channels.now ≤ MOST_CHANNELS }
-    requires fits { AllFit (E.channels env.now) (E.current env.now) }
-    requires places { length offers.old.contents ≡ length (all_widths channels.now) }
-    ensures row { IfOk result (λ row. (d : Design) (s : Values) (before : Option OneRow) → S.runs shell.old d s before
-        → IsShown d (S.map shell.old) s before (offers_on channels.now (E.current env.now)) (all_up channels.now) row) }
-    ensures fresh { IfOk result (λ row. row.fresh ≡ false) }
-    ensures runs { IfOk result (λ row. (d : Design) (s : Values) (before : Option OneRow) → S.runs shell.old d s before
-        → S.runs shell.new d s before) }
-    ensures driven { IfOk result (λ row. S.driven shell.new row) }
-    ensures map { S.map shell.new ≡ S.map shell.old }
+    player: &mut PlainPlayer<'_, '_, '_, E>,
+    cycles: u32,
+    two: &mut TwoRows,
+) -> Result<Ending, Memory>
+    requires mapped { S.map shell.old ≡ player.old.map.now }
+    requires begun { ∥ ((d : Design) × HasBegun d player.old.map.now (S.runs shell.old)) ∥₁ }
+    requires channels { E.channels player.old.env.now ≡ player.old.map.now.channels }
+    requires few { length player.old.map.now.channels ≤ MOST_CHANNELS }
+    requires at { IsAt player.old.map.now.channels (E.stands_for player.old.env.now) (E.current player.old.env.now)
+        player.old.cells.now.given player.old.cells.now.rows [] }
+    requires cycles { cycles ≤ MOST_CYCLES }
+    requires rows { AreOver player.old.map.now.channels two.old }
+    requires silent { two.old.last.valids ≡ 0 }
+    ensures run { IfOk result (λ ending. (d : Design) → HasBegun d player.old.map.now (S.runs shell.old)
+        → IsPlainRun d player.old.map.now (E.offer (E.plan player.old.env.now)) cycles
+        (record { rows = player.new.cells.now.rows; unstable = spot_of ending })) }
+    ensures behind { IfOk result (λ _. (d : Design) → HasBegun d player.old.map.now (S.runs shell.old)
+        → GoesOn (S.runs shell.new) d player.old.map.now (E.offer (E.plan player.old.env.now)) player.new.cells.now.rows) }
+    ensures stands { IfOk result (λ _. E.stands_for player.new.env.now player.new.cells.now.rows) }
+    ensures memory { IfErr result (λ _. (d : Design) → HasBegun d player.old.map.now (S.runs shell.old)
+        → StandsWithin (E.stands_for player.new.env.now) d player.old.map.now (E.offer (E.plan player.old.env.now)) cycles) }
     ensures place { S.place shell.new ≡ S.place shell.old }
-    ensures places { length offers.new.contents ≡ length (all_widths channels.now) }
+    ensures env_name { player.new.env.ghost_name ≡ player.old.env.ghost_name }
+    ensures cells_name { player.new.cells.ghost_name ≡ player.old.cells.ghost_name }
+    ensures plan { E.plan player.new.env.now ≡ E.plan player.old.env.now }
+    ensures env_channels { E.channels player.new.env.now ≡ E.channels player.old.env.now }
 {
-    let mut row = row_for(alloc, offers)?;
-    gather(env, channels, offers);
-    shell.drive(offers, all_up(channels.len()), &mut row);
-    Ok(row)
+    let map = player.map;
+    play(shell, player, map, cycles, two)
 }
 
 /// The run of a shell from a reset on, of each design that it runs. The shell goes on behind its rows.
 fn run_shell<S: Shell, E: Env>(
     alloc: Global,
     shell: &mut S,
-    channels: &Channels,
+    map: &Map,
     env: &mut E,
     cycles: u32,
 ) -> Result<PlainRun, Memory>
-    requires running { IsRunning (S.runs shell.old) }
-    requires channels { channels.now ≡ (S.map shell.old).channels }
-    requires same { channels.now ≡ E.channels env.old }
-    requires few { length channels.now ≤ MOST_CHANNELS }
+    requires mapped { S.map shell.old ≡ map.now }
+    requires same { E.channels env.old ≡ map.now.channels }
+    requires few { length map.now.channels ≤ MOST_CHANNELS }
     requires first { E.stands_for env.old [] }
     requires cycles { cycles ≤ MOST_CYCLES }
     ensures run { IfOk result (λ run. (d : Design) (s : Values) (before : Option OneRow) → S.runs shell.old d s before
-        → IsPlainRun d (S.map shell.old) (E.offer (E.plan env.old)) cycles run) }
+        → IsPlainRun d map.now (E.offer (E.plan env.old)) cycles run) }
     ensures behind { IfOk result (λ run. (d : Design) (s : Values) (before : Option OneRow) → S.runs shell.old d s before
-        → GoesOn (S.runs shell.new) d (S.map shell.old) (E.offer (E.plan env.old)) run.rows) }
+        → GoesOn (S.runs shell.new) d map.now (E.offer (E.plan env.old)) run.rows) }
     ensures place { S.place shell.new ≡ S.place shell.old }
     ensures stands { IfOk result (λ run. E.stands_for env.new run.rows) }
     ensures plan { E.plan env.new ≡ E.plan env.old }
     ensures channels { E.channels env.new ≡ E.channels env.old }
     ensures memory { OnErr result ((d : Design) (s : Values) (before : Option OneRow) → S.runs shell.old d s before
-        → StandsWithin (E.stands_for env.new) d (S.map shell.old) (E.offer (E.plan env.old)) cycles) }
+        → StandsWithin (E.stands_for env.new) d map.now (E.offer (E.plan env.old)) cycles) }
 {
     shell.reset();
-    let mut offers = offers_over(alloc, channels)?;
-    let mut rows = Rows::new(alloc);
-    for cycle in 0..cycles {
-        let row = next_row(alloc, shell, channels, env, &mut offers)?;
-        if let Some(channel) = break_after(&rows, &row, channels) {
-            let unstable = Some(Spot { channel, cycle });
-            return Ok(PlainRun { rows, unstable });
-        }
-        shell.clock();
-        env.commit(&row);
-        rows.push(row)?;
-    }
+    let mut two = TwoRows::new(alloc, &map.channels)?;
+    let given = given_now(alloc, env, &map.channels)?;
+    let rows = Rows::new(alloc);
+    let mut cells = PlainCells { alloc, given, rows };
+    let mut player = PlainPlayer {
+        map,
+        env,
+        cells: &mut cells,
+    };
+    let ending = run_player(shell, &mut player, cycles, &mut two)?;
+    let PlainCells { rows, .. } = cells;
     Ok(PlainRun {
         rows,
-        unstable: None,
+        unstable: spot_of(ending),
     })
 }
 
@@ -182,7 +155,7 @@ pub fn run_plain<B: Block, E: Env>(
         ⊎ StandsWithin (E.stands_for env.new) (B.design block.old) map.now (E.offer (E.plan env.old)) cycles) }
 {
     let mut shell = Machines::new(alloc, Lent::new(block), map)?;
-    let run = run_shell(alloc, &mut shell, map.channels(), env, cycles);
+    let run = run_shell(alloc, &mut shell, map, env, cycles);
     // The borrow ends, with the block as the shell leaves it.
     let Lent { block: _back } = shell.into_block();
     run

@@ -1,9 +1,9 @@
 use Rattle.std.proofs.Common.{◌≡◌, ◌⊎◌, inl, inr, None, refl, ap, sym, subst, ◌∙◌}
 use Rattle.std.proofs.lemmas.Option.{same_Some}
 use Rattle.std.proofs.lemmas.Result.{IfOk-weaker}
-use Rattle.chan_monitor.proofs.vidi_bits_lemmas.Results.{on_err}
-use Rattle.chan_monitor.specs.chan_map.declared.pins.Map.{Map}
-use Rattle.chan_monitor.specs.Around.{IsAround}
+use Rattle.run_stage.proofs.chan_monitor_lemmas.vidi_bits_lemmas.Results.{on_err}
+use Rattle.run_stage.specs.chan_map.declared.pins.Map.{Map}
+use Rattle.run_stage.specs.chan_monitor.Around.{IsAround}
 use Rattle.bench_run.specs.Plain.{IsPlainRun, StandsWithin}
 use Rattle.bench_run.proofs.Growing.{if-error, stands-behind}
 use Rattle.bench_run.proofs.plain.run_plain.Goals as goal
@@ -22,8 +22,7 @@ returns-clause-run g c =
     let shell = c.in_ok-shell.shell in
     let runs = subst (λ b. IsAround (g.B.Block.design shell.block.block.now) (g.B.Block.state shell.block.block.now) shell.map.now
     shell.pins shell.monitors (g.B.Block.design b) (g.B.Block.state b) None) c.new.ensures.block c.in_ok-shell.ensures.runs in
-    IfOk-weaker c.run_shell-run.result _ _ (λ run is. subst (λ (m : Map). IsPlainRun d m offer c.args.cycles run)
-    c.in_ok-shell.ensures.map (is d s None runs)) c.run_shell-run.ensures.run
+    IfOk-weaker c.run_shell-run.result _ _ (λ run is. is d s None runs) c.run_shell-run.ensures.run
 
 pub returns-clause-memory : goal.returns-clause-memory
 returns-clause-memory g c =
@@ -33,8 +32,7 @@ returns-clause-memory g c =
     let shell = c.in_ok-shell.shell in
     let runs = subst (λ b. IsAround (g.B.Block.design shell.block.block.now) (g.B.Block.state shell.block.block.now) shell.map.now
     shell.pins shell.monitors (g.B.Block.design b) (g.B.Block.state b) None) c.new.ensures.block c.in_ok-shell.ensures.runs in
-    if-error c.run_shell-run.result c.run_shell-run.ensures.memory (λ is. inr (subst (λ (m : Map).
-    StandsWithin (g.E.Env.stands_for c.run_shell-run.new.env) d m offer c.args.cycles) c.in_ok-shell.ensures.map (is d s None runs)))
+    if-error c.run_shell-run.result c.run_shell-run.ensures.memory (λ is. inr (is d s None runs))
 
 pub returns-clause-design : goal.returns-clause-design
 returns-clause-design g c =
@@ -62,6 +60,6 @@ returns-clause-behind g c =
     sym (ap (λ l. l.block.ghost_name) c.into_block-back.ensures ∙ kept ∙ c.new.ensures.same) in
     let back = c.block-2-1.given.1 same in
     let offer = g.E.Env.offer (g.E.Env.plan c.args.env.now) in
-    IfOk-weaker c.run_shell-run.result _ _ (λ run is. stands-behind _ d shell.map.now c.args.map.now offer run.rows (is d s None runs).0
-    c.in_ok-shell.ensures.map (ap g.B.Block.state back ∙ ap (λ l. g.B.Block.state l.block.now) c.into_block-back.ensures
+    IfOk-weaker c.run_shell-run.result _ _ (λ run is. stands-behind _ d c.args.map.now offer run.rows (is d s None runs).0
+    (ap g.B.Block.state back ∙ ap (λ l. g.B.Block.state l.block.now) c.into_block-back.ensures
     ∙ (is d s None runs).1.state_is)) c.run_shell-run.ensures.behind

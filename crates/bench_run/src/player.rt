@@ -1,0 +1,107 @@
+//! Who plays a plain run.
+
+ghost use Rattle.std.specs.Prelude.{◌≡◌, ◌≤◌, length, IfOk};
+ghost use Rattle.run_stage.specs.run_model.Played.{all_up};
+ghost use Rattle.run_stage.specs.run_model.Run.{AllUp, IsRunRow};
+ghost use Rattle.env_script.specs.Offered.{offers_after, offers_on, AllFit};
+ghost use Rattle.env_script.specs.trace_model.declared.packet.TheConstants.{MOST_CHANNELS, MOST_CYCLES};
+ghost use Rattle.bench_run.specs.Playing.{IsAt, IsSame};
+
+use env_script::trace_model::{Channels, Row, Rows, all_up};
+use env_script::{Env, gather, offers_over};
+use run_stage::chan_map::Map;
+use run_stage::chan_monitor::vidi_bits::{Items, Memory};
+use run_stage::{Gated, Player};
+use std::alloc::Global;
+
+/// What the player of a plain run holds.
+#[derive(Drop)]
+pub(crate) struct PlainCells {
+    pub alloc: Global,
+    /// What is given for the next row.
+    pub given: Gated,
+    /// The rows so far.
+    pub rows: Rows,
+}
+
+/// An environment that plays with all gates up, and the rows so far.
+#[derive(Drop)]
+pub(crate) struct PlainPlayer<'m, 'e, 'c, E: Env> {
+    pub map: &'m Map,
+    pub env: &'e mut E,
+    pub cells: &'c mut PlainCells,
+}
+
+/// A copy of a row.
+fn copied(alloc: Global, row: &Row) -> Result<Row, Memory>
+    ensures { IfOk result (λ copy. copy ≡ row.now) }
+{
+    let contents = Vec::from_slice(alloc, row.contents.as_slice())?;
+    Ok(Row {
+        fresh: row.fresh,
+        gates: row.gates,
+        valids: row.valids,
+        readies: row.readies,
+        contents: Items::from_vec(contents),
+        starts: row.starts,
+        ends: row.ends,
+    })
+}
+
+/// What an environment offers now, with all gates up.
+pub(crate) fn given_now<E: Env>(
+    alloc: Global,
+    env: &E,
+    channels: &Channels,
+) -> Result<Gated, Memory>
+    requires channels { E.channels env.now ≡ channels.now }
+    requires few { length channels.now ≤ MOST_CHANNELS }
+    requires fits { AllFit channels.now (E.current env.now) }
+    ensures offers { IfOk result (λ given. given.offers ≡ offers_on channels.now (E.current env.now)) }
+    ensures gates { IfOk result (λ given. given.gates ≡ all_up channels.now) }
+{
+    let mut offers = offers_over(alloc, channels)?;
+    gather(env, channels, &mut offers);
+    let gates = all_up(channels.len());
+    Ok(Gated { offers, gates })
+}
+
+impl<E: Env> Player<Gated> for PlainPlayer<'_, '_, '_, E> {
+    ghost use Rattle.std.specs.Prelude.{false};
+
+    type Fault = Memory;
+
+    ghost map = { λ p. p.map.now };
+
+    ghost most = { λ _. MOST_CYCLES };
+
+    ghost rule = { λ p. IsRunRow p.map.now.channels (offers_after p.map.now.channels (E.offer (E.plan p.env.now))) (AllUp p.map.now.channels) };
+
+    ghost stands = { λ first now rows. IsSame first.map.now now.map.now first.env.ghost_name now.env.ghost_name first.cells.ghost_name
+        now.cells.ghost_name (E.plan first.env.now)
+        (E.plan now.env.now) (E.channels now.env.now)
+        × IsAt first.map.now.channels (E.stands_for now.env.now) (E.current now.env.now) now.cells.now.given now.cells.now.rows rows };
+
+    ghost ends = { λ _ _ over. over ≡ false };
+
+    ghost broke = { λ first now rows _. IsSame first.map.now now.map.now first.env.ghost_name now.env.ghost_name first.cells.ghost_name
+        now.cells.ghost_name (E.plan first.env.now)
+        (E.plan now.env.now) (E.channels now.env.now)
+        × E.stands_for now.env.now rows };
+
+    fn is_done(&self, _last: &Row) -> bool {
+        false
+    }
+
+    fn given(&self) -> &Gated {
+        &self.cells.given
+    }
+
+    fn keep(&mut self, _cycle: u32, last: &Row) -> Result<(), Memory> {
+        self.env.commit(last);
+        let row = copied(self.cells.alloc, last)?;
+        self.cells.rows.push(row)?;
+        gather(self.env, &self.map.channels, &mut self.cells.given.offers);
+        Ok(())
+    }
+}
