@@ -70,6 +70,9 @@ over_prop channels row = hlevel (props, fit_prop)
 
 module _ (m : Map) (offer : List Row → ℕ → Offer) (plan : Plan) (rows : List Row) (row : Row) (room : Ledger)
     (lasts : AreLasting m.channels offer) (stands : StandsAfter (sizes_of m.channels) plan rows false room) where
+  abbrev Played : Type 0
+  Played = (d : Design) × IsPlayed d m (rule_under m.channels offer plan) (rows ++ row ∷ [])
+
   next-one : (d : Design) → AreStable m.channels (rows ++ row ∷ []) → IsPlayed d m (rule_under m.channels offer plan) (rows ++ row ∷ [])
       → IsNext m.channels (offer rows) room rows row
   next-one d stable run =
@@ -92,16 +95,13 @@ module _ (m : Map) (offer : List Row → ℕ → Offer) (plan : Plan) (rows : Li
 
   pub next : AreRuled m (rule_under m.channels offer plan) (rows ++ row ∷ []) → IsNext m.channels (offer rows) room rows row
   next are = record {
-    over = ∥∥₁_elim are.played (over_prop m.channels row) (λ (x : Some-design). (one x).over);
-    carries = ∥∥₁_elim are.played (hlevel props) (λ (x : Some-design). (one x).carries);
-    ends = ∥∥₁_elim are.played (hlevel props) (λ (x : Some-design). (one x).ends);
-    follows = ∥∥₁_elim are.played (hlevel props) (λ (x : Some-design). (one x).follows);
+    over = ∥∥₁_elim are.played (over_prop m.channels row) (λ (x : Played). (one x).over);
+    carries = ∥∥₁_elim are.played (hlevel props) (λ (x : Played). (one x).carries);
+    ends = ∥∥₁_elim are.played (hlevel props) (λ (x : Played). (one x).ends);
+    follows = ∥∥₁_elim are.played (hlevel props) (λ (x : Played). (one x).follows);
   }
     where
-      abbrev Some-design : Type 0
-      Some-design = (d : Design) × IsPlayed d m (rule_under m.channels offer plan) (rows ++ row ∷ [])
-
-      one : Some-design → IsNext m.channels (offer rows) room rows row
+      one : Played → IsNext m.channels (offer rows) room rows row
       one x = next-one x.0 are.stable x.1
 
 -- ---- what is given

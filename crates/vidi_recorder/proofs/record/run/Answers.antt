@@ -57,7 +57,7 @@ pub play-requires-clause-begun : goal.play-requires-clause-begun
 play-requires-clause-begun g c =
     ∥∥₁_map (g.met.S.Shell.running c.args.shell.now) (λ (r : IsRunning (g.S.Shell.runs c.args.shell.now)).
     (let b = c.reset.ensures.first r.0 r.1 r.2 r.3 in
-    (r.0, b.0, subst (λ (x : Map). IsFirst r.0 x b.0) c.requires.mapped b.1, b.2)))
+    (r.0, (b.0, subst (λ (x : Map). IsFirst r.0 x b.0) c.requires.mapped b.1, b.2))))
 
 pub play-requires-clause-stands : goal.play-requires-clause-stands
 play-requires-clause-stands g c =

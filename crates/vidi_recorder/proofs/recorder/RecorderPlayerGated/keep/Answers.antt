@@ -19,9 +19,9 @@ any_err Q (Err e) f = f e
 
 pub commit-requires-clause-over : goal.commit-requires-clause-over
 commit-requires-clause-over g c =
-    let first = c.requires.ruled.0 in
-    let rows = c.requires.ruled.1 in
-    let stands = c.requires.ruled.4 in
+    let first = c.requires.0 in
+    let rows = c.requires.1 in
+    let stands = c.requires.4 in
     let self = c.args.self.now in
     let env = self.env.now in
     let m = self.map.now in
@@ -31,7 +31,7 @@ commit-requires-clause-over g c =
     let offer = g.E.Env.offer (g.E.Env.plan env) in
     let begun = g.K.Sink.told first.sink.now in
     let told = g.K.Sink.told self.sink.now in
-    let ruled = c.requires.ruled.5 in
+    let ruled = c.requires.5 in
     let same = ap (λ (l : Lent). l.map) stands.0 in
     let same_stalls = ap (λ (l : Lent). l.stalls) stands.0 in
     let k = own first.map.now m first.stalls.now stalls same same_stalls begun told (g.E.Env.stands_for env)
@@ -48,9 +48,9 @@ commit-requires-clause-over g c =
 
 pub commit-requires-clause-carries : goal.commit-requires-clause-carries
 commit-requires-clause-carries g c =
-    let first = c.requires.ruled.0 in
-    let rows = c.requires.ruled.1 in
-    let stands = c.requires.ruled.4 in
+    let first = c.requires.0 in
+    let rows = c.requires.1 in
+    let stands = c.requires.4 in
     let self = c.args.self.now in
     let env = self.env.now in
     let m = self.map.now in
@@ -60,7 +60,7 @@ commit-requires-clause-carries g c =
     let offer = g.E.Env.offer (g.E.Env.plan env) in
     let begun = g.K.Sink.told first.sink.now in
     let told = g.K.Sink.told self.sink.now in
-    let ruled = c.requires.ruled.5 in
+    let ruled = c.requires.5 in
     let same = ap (λ (l : Lent). l.map) stands.0 in
     let same_stalls = ap (λ (l : Lent). l.stalls) stands.0 in
     let k = own first.map.now m first.stalls.now stalls same same_stalls begun told (g.E.Env.stands_for env)
@@ -78,9 +78,9 @@ commit-requires-clause-carries g c =
 
 pub commit-requires-clause-ends : goal.commit-requires-clause-ends
 commit-requires-clause-ends g c =
-    let first = c.requires.ruled.0 in
-    let rows = c.requires.ruled.1 in
-    let stands = c.requires.ruled.4 in
+    let first = c.requires.0 in
+    let rows = c.requires.1 in
+    let stands = c.requires.4 in
     let self = c.args.self.now in
     let env = self.env.now in
     let m = self.map.now in
@@ -90,7 +90,7 @@ commit-requires-clause-ends g c =
     let offer = g.E.Env.offer (g.E.Env.plan env) in
     let begun = g.K.Sink.told first.sink.now in
     let told = g.K.Sink.told self.sink.now in
-    let ruled = c.requires.ruled.5 in
+    let ruled = c.requires.5 in
     let same = ap (λ (l : Lent). l.map) stands.0 in
     let same_stalls = ap (λ (l : Lent). l.stalls) stands.0 in
     let k = own first.map.now m first.stalls.now stalls same same_stalls begun told (g.E.Env.stands_for env)
@@ -107,9 +107,9 @@ commit-requires-clause-ends g c =
 
 pub keep-requires-clause-row : goal.keep-requires-clause-row
 keep-requires-clause-row g c =
-    let first = c.requires.ruled.0 in
-    let rows = c.requires.ruled.1 in
-    let stands = c.requires.ruled.4 in
+    let first = c.requires.0 in
+    let rows = c.requires.1 in
+    let stands = c.requires.4 in
     let self = c.args.self.now in
     let env = self.env.now in
     let m = self.map.now in
@@ -119,7 +119,7 @@ keep-requires-clause-row g c =
     let offer = g.E.Env.offer (g.E.Env.plan env) in
     let begun = g.K.Sink.told first.sink.now in
     let told = g.K.Sink.told self.sink.now in
-    let ruled = c.requires.ruled.5 in
+    let ruled = c.requires.5 in
     let same = ap (λ (l : Lent). l.map) stands.0 in
     let same_stalls = ap (λ (l : Lent). l.stalls) stands.0 in
     let k = own first.map.now m first.stalls.now stalls same same_stalls begun told (g.E.Env.stands_for env)
@@ -136,9 +136,9 @@ keep-requires-clause-row g c =
 
 pub keep-requires-clause-may : goal.keep-requires-clause-may
 keep-requires-clause-may g c =
-    let first = c.requires.ruled.0 in
-    let rows = c.requires.ruled.1 in
-    let stands = c.requires.ruled.4 in
+    let first = c.requires.0 in
+    let rows = c.requires.1 in
+    let stands = c.requires.4 in
     let self = c.args.self.now in
     let env = self.env.now in
     let m = self.map.now in
@@ -148,7 +148,7 @@ keep-requires-clause-may g c =
     let offer = g.E.Env.offer (g.E.Env.plan env) in
     let begun = g.K.Sink.told first.sink.now in
     let told = g.K.Sink.told self.sink.now in
-    let ruled = c.requires.ruled.5 in
+    let ruled = c.requires.5 in
     let same = ap (λ (l : Lent). l.map) stands.0 in
     let same_stalls = ap (λ (l : Lent). l.stalls) stands.0 in
     let k = own first.map.now m first.stalls.now stalls same same_stalls begun told (g.E.Env.stands_for env)
@@ -164,9 +164,9 @@ keep-requires-clause-may g c =
 
 pub overflow_add-cells : goal.overflow_add-cells
 overflow_add-cells g c =
-    let first = c.requires.ruled.0 in
-    let rows = c.requires.ruled.1 in
-    let stands = c.requires.ruled.4 in
+    let first = c.requires.0 in
+    let rows = c.requires.1 in
+    let stands = c.requires.4 in
     let self = c.args.self.now in
     let env = self.env.now in
     let m = self.map.now in
@@ -176,7 +176,7 @@ overflow_add-cells g c =
     let offer = g.E.Env.offer (g.E.Env.plan env) in
     let begun = g.K.Sink.told first.sink.now in
     let told = g.K.Sink.told self.sink.now in
-    let ruled = c.requires.ruled.5 in
+    let ruled = c.requires.5 in
     let same = ap (λ (l : Lent). l.map) stands.0 in
     let same_stalls = ap (λ (l : Lent). l.stalls) stands.0 in
     let k = own first.map.now m first.stalls.now stalls same same_stalls begun told (g.E.Env.stands_for env)
@@ -188,16 +188,16 @@ overflow_add-cells g c =
       ruled = ruled;
     }) in
     let lasts = lasting m.channels (g.E.Env.channels env) offer k.channels (g.met.E.Env.fits env) (g.met.E.Env.stays env) in
-    let a = packets-within m offer stalls begun told (g.E.Env.stands_for env) (g.E.Env.current env) cells rows row lasts k.at k.ruled c.args.cycle c.requires.ruled.2 in
+    let a = packets-within m offer stalls begun told (g.E.Env.stands_for env) (g.E.Env.current env) cells rows row lasts k.at k.ruled c.args.cycle c.requires.2 in
     let b = c.keep.ensures.count in
     let o = one-most (has_event row) in
-    omega (arith, a, b, o, c.requires.ruled.3)
+    omega (arith, a, b, o, c.requires.3)
 
 pub give-requires-clause-waits : goal.give-requires-clause-waits
 give-requires-clause-waits g c =
-    let first = c.requires.ruled.0 in
-    let rows = c.requires.ruled.1 in
-    let stands = c.requires.ruled.4 in
+    let first = c.requires.0 in
+    let rows = c.requires.1 in
+    let stands = c.requires.4 in
     let self = c.args.self.now in
     let env = self.env.now in
     let m = self.map.now in
@@ -207,7 +207,7 @@ give-requires-clause-waits g c =
     let offer = g.E.Env.offer (g.E.Env.plan env) in
     let begun = g.K.Sink.told first.sink.now in
     let told = g.K.Sink.told self.sink.now in
-    let ruled = c.requires.ruled.5 in
+    let ruled = c.requires.5 in
     let same = ap (λ (l : Lent). l.map) stands.0 in
     let same_stalls = ap (λ (l : Lent). l.stalls) stands.0 in
     let k = own first.map.now m first.stalls.now stalls same same_stalls begun told (g.E.Env.stands_for env)
@@ -266,9 +266,9 @@ returns-in_err-give-clause-broke g c =
 
 pub offer-requires-clause-fits : goal.offer-requires-clause-fits
 offer-requires-clause-fits g c =
-    let first = c.requires.ruled.0 in
-    let rows = c.requires.ruled.1 in
-    let stands = c.requires.ruled.4 in
+    let first = c.requires.0 in
+    let rows = c.requires.1 in
+    let stands = c.requires.4 in
     let self = c.args.self.now in
     let env = self.env.now in
     let m = self.map.now in
@@ -278,7 +278,7 @@ offer-requires-clause-fits g c =
     let offer = g.E.Env.offer (g.E.Env.plan env) in
     let begun = g.K.Sink.told first.sink.now in
     let told = g.K.Sink.told self.sink.now in
-    let ruled = c.requires.ruled.5 in
+    let ruled = c.requires.5 in
     let same = ap (λ (l : Lent). l.map) stands.0 in
     let same_stalls = ap (λ (l : Lent). l.stalls) stands.0 in
     let k = own first.map.now m first.stalls.now stalls same same_stalls begun told (g.E.Env.stands_for env)
