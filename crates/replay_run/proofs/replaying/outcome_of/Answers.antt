@@ -1,6 +1,6 @@
 use Rattle.std.proofs.Common.{◌∙◌, List, ap, subst, sym}
 use Rattle.trace_code.specs.trace_model.declared.channel.Channel.{Channel}
-use Rattle.chan_replayer.specs.run_model.Held.{held, waits}
+use Rattle.run_stage.specs.run_model.Held.{held, waits}
 use Rattle.replay_run.specs.Standing.{PlaysTo}
 use Rattle.replay_run.proofs.replaying.outcome_of.Goals as goal
 
