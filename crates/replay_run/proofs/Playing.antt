@@ -13,6 +13,7 @@ use Rattle.trace_code.specs.trace_model.declared.event.Kind.TheVariants.{Start, 
 use Rattle.trace_code.specs.trace_model.declared.packet.Packet.{Packet}
 use Rattle.trace_code.specs.trace_model.declared.row.Row.{Row}
 use Rattle.trace_code.specs.trace_model.declared.trace.Trace.{Trace}
+use Rattle.trace_code.specs.trace_model.Channel.{IsTable}
 use Rattle.trace_code.specs.trace_model.Packet.{count}
 use Rattle.trace_code.specs.trace_model.Recording.{row_does, shown}
 use Rattle.trace_code.specs.trace_model.Row.{flies_after, is_in_flight, row_before, IsOver}
@@ -33,7 +34,7 @@ use Rattle.run_stage.proofs.run_model_lemmas.ReplayLaws.{replay-keeps}
 use Rattle.run_stage.proofs.run_model_lemmas.Stays.{keeps-in-flight}
 use Rattle.replay_run.specs.declared.feeder.Feeder.{Feeder}
 use Rattle.replay_run.specs.Behind.{IsDone}
-use Rattle.replay_run.specs.Standing.{IsAt, IsNextRow, PlaysTo, SaysEnded}
+use Rattle.replay_run.specs.Standing.{AreKept, IsAt, IsNextRow, PlaysTo, SaysEnded, StandsBehind}
 
 -- ---- whether the trace has ended
 pub flight-last : (o : Option Row) (last : Row) (c : ℕ) → IsLast o last → is_in_flight last c ≡ flies_after o c
@@ -159,3 +160,18 @@ pub over-last : (m : Map) (rule : List Row → Row → Type 0) (rows : List Row)
     → IsOver m.channels row
 over-last m rule rows row ruled = ∥∥₁_elim ruled.played (over_prop m row)
     (λ (x : (d : Design) × IsPlayed d m rule (rows ++ row ∷ [])). (x.1.marked (length rows) row (slice_get-last rows row)).0)
+
+-- what is kept, on the map's channels
+module _ (first feeder : Feeder) (rows : List Row) (is : StandsBehind first feeder rows) where
+  pub table-here : IsTable feeder.map.now.channels
+  table-here = subst (λ (m : Map). IsTable m.channels) (sym is.map) is.table
+
+  pub kept-here : AreKept feeder.map.now.channels (first.cycles - length rows) rows feeder
+  kept-here = subst (λ (m : Map). AreKept m.channels (first.cycles - length rows) rows feeder) (sym is.map) is.kept
+
+  pub at-here : IsAt is.trace rows feeder
+  at-here = is.at is.trace is.opened
+
+-- room for the rows that are left
+pub room-left : (most : ℕ) (rows : List Row) (row : Row) → length rows < most → most - length rows ≡ (most - length (rows ++ row ∷ [])) + 1
+room-left most rows row l = let e = length_push rows row in omega (arith, l, e)

@@ -7,6 +7,7 @@ ghost use Rattle.trace_code.specs.trace_model.declared.trace.Trace.{Trace};
 ghost use Rattle.trace_code.specs.Encoding.{Encodes};
 ghost use Rattle.net_design.specs.declared.design.Design.{Design};
 ghost use Rattle.net_design.specs.declared.values.Values.{Values};
+ghost use Rattle.run_stage.specs.chan_map.declared.pins.Map.{Map as OneMap};
 ghost use Rattle.run_stage.specs.run_model.Replay.{IsReplayRow};
 ghost use Rattle.run_stage.specs.Playing.{AreOver, Plays};
 ghost use Rattle.replay_run.specs.Behind.{AreBehind};
@@ -54,9 +55,9 @@ fn outcome_of(ending: Ending, lists: Lists, feeder: &Feeder, last: &Row) -> Repl
     requires room { HasRoom (length feeder.now.map.now.channels) lists }
     requires long { length feeder.now.have ≡ length feeder.now.map.now.channels }
     requires behind { (t : Trace) × (have : ℕ → ℕ) × AreBehind t have feeder.now.cursors × (t.channels ≡ feeder.now.map.now.channels) }
-    ensures { (t : Trace) (d : Design) (n : ℕ) (rows : List OneRow) → IsAt t rows feeder.now
-        → IsKept (length feeder.now.map.now.channels) rows feeder.now.have last.now
-        → PlaysTo d feeder.now.map.now t.packets n rows ending → EndsAs d feeder.now.map.now t.packets n rows result }
+    ensures { (t : Trace) (d : Design) (m : OneMap) (n : ℕ) (rows : List OneRow) → IsAt t rows feeder.now
+        → m.channels ≡ feeder.now.map.now.channels → IsKept (length m.channels) rows feeder.now.have last.now
+        → PlaysTo d m t.packets n rows ending → EndsAs d m t.packets n rows result }
 {
     match ending {
         Ending::Done { cycles } => ReplayOutcome::Ended { cycles },
