@@ -1,8 +1,9 @@
 -- Played rows, one row longer.
 use Rattle.std.proofs.Common.{◌≡◌, ℕ, zero, suc, ◌<◌, ◌≤◌, ◌&&◌, ◌==◌, Bool, true, false, not, List, [], ◌∷◌, ◌++◌, Option}
-use Rattle.std.proofs.Common.{Some, None}
+use Rattle.std.proofs.Common.{Some, None, Result, Err, IfErr}
 use Rattle.std.proofs.Common.{length, slice_get, take, refl, ap, sym, subst, ◌∙◌, arith, ⊎_elim}
-use Rattle.std.proofs.Math.Logic.{∥∥₁_map}
+use Rattle.std.proofs.Math.Logic.{∥∥₁_elim, ∥∥₁_map}
+use Rattle.std.proofs.Props.{props}
 use Rattle.std.proofs.lemmas.Bool.{cases_lt, false≢true}
 use Rattle.std.proofs.lemmas.List.{length_push, take-append-le, take_all}
 use Rattle.std.proofs.lemmas.Nat.Bits.{bit_at-zero}
@@ -10,9 +11,10 @@ use Rattle.std.proofs.lemmas.Option.{same_Some}
 use Rattle.chan_replayer.specs.trace_model.declared.channel.Channel.{Channel}
 use Rattle.chan_replayer.specs.trace_model.declared.row.Row.{Row}
 use Rattle.chan_replayer.specs.chan_monitor.vidi_bits.Number.{has}
-use Rattle.chan_replayer.specs.trace_model.Row.{completes, row_before}
+use Rattle.chan_replayer.specs.trace_model.Row.{completes, row_before, IsMarked, IsOver}
 use Rattle.chan_replayer.specs.trace_model.Stability.{waits, IsLowestUnstable, IsUnstable, IsUnstableAt}
 use Rattle.chan_replayer.proofs.trace_model_lemmas.RowLemmas.{before-last}
+use Rattle.chan_replayer.proofs.trace_model_lemmas.ContentsLemmas.{fit_prop}
 use Rattle.chan_replayer.proofs.trace_model_lemmas.CountingLemmas.{slice_get-append_left, slice_get-last, slice_get-push}
 use Rattle.net_design.specs.declared.design.Design.{Design}
 use Rattle.net_design.specs.declared.values.Values.{Values}
@@ -48,6 +50,12 @@ stable-push channels rows last row stable is none t before now b at c bad = ⊎_
     (ap (row_before rows) (sym h.0) ∙ sym (before-append rows row t (omega (arith, h.0))) ∙ b) none c
     (subst (λ (r : Row). IsUnstable channels before r c) (sym h.1) bad))
     (slice_get-push rows row now t at)
+
+-- the row is kept as the last one
+pub stable-kept : (channels : List Channel) (rows : List Row) (last row kept : Row) → kept ≡ row → AreStable channels rows
+    → IsLast (row_before rows (length rows)) last → IsLowestUnstable channels last row None → AreStable channels (rows ++ kept ∷ [])
+stable-kept channels rows last row kept e stable is none = subst (λ (r : Row). AreStable channels (rows ++ r ∷ [])) (sym e)
+    (stable-push channels rows last row stable is none)
 
 pub no-wait : (row : Row) (c : ℕ) → row.valids ≡ 0 → waits row c ≡ true → ⊥
 no-wait row c e h =
@@ -132,6 +140,33 @@ stays d m rule runs then last rows on at = record {
   last_is = at.last_is;
 }
 
+-- ---- the last row of those that a design plays
+pub record IsLastOf (m : Map) (rule : List Row → Row → Type 0) (rows : List Row) (row : Row) : Type 0 where
+  pub over : IsOver m.channels row
+  pub marked : IsMarked (row_before rows (length rows)) row
+  pub ruled : rule rows row
+
+pub last-of : (d : Design) (m : Map) (rule : List Row → Row → Type 0) (rows : List Row) (row : Row) → IsPlayed d m rule (rows ++ row ∷ [])
+    → IsLastOf m rule rows row
+last-of d m rule rows row played =
+    let at = slice_get-last rows row in
+    let both = played.marked (length rows) row at in
+    let front : take (length rows) (rows ++ row ∷ []) ≡ rows =
+    take-append-le (length rows) rows (row ∷ []) (omega arith) ∙ take_all (length rows) rows (omega arith) in
+    record {
+      over = both.0;
+      marked = subst (λ (o : Option Row). IsMarked o row) (before-append rows row (length rows) (omega arith)) both.1;
+      ruled = subst (λ (rs : List Row). rule rs row) front (played.ruled (length rows) row at);
+    }
+
+over_prop : (channels : List Channel) (row : Row) → IsProp (IsOver channels row)
+over_prop channels row = hlevel (props, fit_prop)
+
+pub over-last : (m : Map) (rule : List Row → Row → Type 0) (rows : List Row) (row : Row) → AreRuled m rule (rows ++ row ∷ [])
+    → IsOver m.channels row
+over-last m rule rows row are = ∥∥₁_elim are.played (over_prop m.channels row)
+    (λ (x : (d : Design) × IsPlayed d m rule (rows ++ row ∷ [])). (last-of x.0 m rule rows row x.1).over)
+
 -- ---- whatever the design
 pub ruled-of : (m : Map) (rule : List Row → Row → Type 0) (runs begun : Design → Values → List Row → Type 0) (last : Row) (rows : List Row)
     → ∥ ((d : Design) × Begins d m begun) ∥₁ → ((d : Design) → Begins d m begun → Plays d m rule runs last rows) → AreStable m.channels rows
@@ -152,3 +187,15 @@ going-push ends rows row going now k l =
     (⊎_elim (λ (b : k < length rows). going k b)
     (λ (b : length rows ≤ k). subst (λ (rs : List Row). ends rs false) (sym (take_all k rows b)) now)
     (cases_lt k (length rows)))
+
+-- ---- whether the player is done
+pub ends-now : (m : Map) (rule : List Row → Row → Type 0) (ends : List Row → Bool → Type 0) (given : Map) → given ≡ m → (rows : List Row)
+    (last : Row) (r said : Bool) → r ≡ said
+    → (AreRuled given rule rows → IsLast (row_before rows (length rows)) last → ends rows r) → AreRuled m rule rows
+    → IsLast (row_before rows (length rows)) last → ends rows said
+ends-now m rule ends given same rows last r said e says ruled is = subst (ends rows) e
+    (says (subst (λ (n : Map). AreRuled n rule rows) (sym same) ruled) is)
+
+-- an answer that is this fault
+pub fault-as : {A E : Type 0} (r : Result A E) (fault : E) → ((y : E) × (r ≡ Err y) × (y ≡ fault)) → (Q : E → Type 0) → Q fault → IfErr r Q
+fault-as {A} {E} r fault (y, is, same) Q holds = subst (λ (x : Result A E). IfErr x Q) (sym is) (subst Q (sym same) holds)

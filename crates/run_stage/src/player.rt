@@ -35,7 +35,7 @@ pub trait Player<G: Given> {
 
     /// Whether it wants no further row. The last row is that before, or a silent one.
     fn is_done(&self, last: &Row) -> bool
-        requires stands { (first : Self) × (rows : List Row) × stands first self.now rows × IsOver (map first).channels last.now }
+        requires { (first : Self) × (rows : List Row) × stands first self.now rows × IsOver (map first).channels last.now }
         ensures { (first : Self) (rows : List Row) → stands first self.now rows → AreRuled (map first) (rule first) rows
             → IsLast (row_before rows (length rows)) last.now → ends first rows result };
 
@@ -48,14 +48,14 @@ pub trait Player<G: Given> {
 
     /// What the stage is given in the next cycle: each row that it allows is one that has to come.
     fn given(&self) -> &G
-        requires stands { (first : Self) × (rows : List Row) × stands first self.now rows }
+        requires { (first : Self) × (rows : List Row) × stands first self.now rows }
         ensures fits { (first : Self) (rows : List Row) → stands first self.now rows → G.fits (map first).channels result.now }
         ensures ruled { (first : Self) (rows : List Row) (row : Row) → stands first self.now rows
             → G.allows (map first).channels result.now rows row → row.fresh ≡ false → rule first rows row };
 
     /// Keeps the row of a cycle, which was committed, and turns to the next.
     fn keep(&mut self, cycle: u32, last: &Row) -> Result<(), Self::Fault>
-        requires ruled { (first : Self) × (rows : List Row) × (length rows ≡ cycle) × (cycle < most first) × stands first self.old rows
+        requires { (first : Self) × (rows : List Row) × (length rows ≡ cycle) × (cycle < most first) × stands first self.old rows
             × AreRuled (map first) (rule first) (rows ++ last.now ∷ []) }
         ensures stands { IfOk result (λ _. (first : Self) (rows : List Row) → length rows ≡ cycle → stands first self.old rows
             → AreRuled (map first) (rule first) (rows ++ last.now ∷ []) → stands first self.new (rows ++ last.now ∷ [])) }

@@ -1,0 +1,55 @@
+use Rattle.std.proofs.Common.{◌≡◌, ℕ, false, List, Option, length, ap, sym, subst, ◌∙◌}
+use Rattle.chan_replayer.specs.trace_model.declared.row.Row.{Row}
+use Rattle.chan_replayer.specs.trace_model.Row.{all_widths, IsOver}
+use Rattle.chan_replayer.specs.trace_model.Stability.{IsLowestUnstable}
+use Rattle.chan_replayer.proofs.trace_model_lemmas.ContentsLemmas.{fit-length}
+use Rattle.chan_replayer.specs.chan_map.declared.pins.Map.{Map}
+use Rattle.run_stage.proofs.Turning.{next, stable-kept, stays, stops}
+use Rattle.run_stage.proofs.cycle.play_cycle.Goals as goal
+
+pub returns-in-Some-clause-stops : goal.returns-in-Some-clause-stops
+returns-in-Some-clause-stops g c k same first d played stands mapped at =
+    let m = c.args.map.now in
+    let given = g.S.Stage.map c.args.stage.now in
+    let runs = g.S.Stage.runs c.args.stage.now in
+    let allows = g.G.Given.allows given.channels c.given.result.now in
+    let ruled = subst (λ (n : Map). (r : Row) → g.G.Given.allows n.channels c.given.result.now played r → r.fresh ≡ false
+    → g.P.Player.rule first played r) (mapped ∙ sym c.requires.mapped) (λ r. c.given.ensures.ruled first played r stands) in (
+      stops d m given (g.P.Player.rule first) allows runs played c.args.rows.now.last c.drive.new.row c.requires.mapped ruled at
+          (c.drive.ensures.row d) (c.drive.ensures.fresh ∙ c.is_fresh-rows.ensures) k
+          (subst (λ (o : Option ℕ). IsLowestUnstable m.channels c.args.rows.now.last c.drive.new.row o) same c.in-Some.ensures),
+      stays d m (g.P.Player.rule first) runs (g.S.Stage.runs c.drive.new.self) c.args.rows.now.last played
+          (λ s on. c.drive.ensures.runs d s played on) at,
+    )
+
+pub returns-in-Some-clause-rows : goal.returns-in-Some-clause-rows
+returns-in-Some-clause-rows g c = record {
+  places = sym (fit-length (all_widths c.args.map.now.channels) c.drive.new.row.contents
+      (subst (λ (m : Map). IsOver m.channels c.drive.new.row) c.requires.mapped c.drive.ensures.over).contents);
+  over = c.requires.rows.over;
+}
+
+pub returns-clause-on : goal.returns-clause-on
+returns-clause-on g c same first d played stands mapped at =
+    let m = c.args.map.now in
+    let given = g.S.Stage.map c.args.stage.now in
+    let runs = g.S.Stage.runs c.args.stage.now in
+    let allows = g.G.Given.allows given.channels c.given.result.now in
+    let ruled = subst (λ (n : Map). (r : Row) → g.G.Given.allows n.channels c.given.result.now played r → r.fresh ≡ false
+    → g.P.Player.rule first played r) (mapped ∙ sym c.requires.mapped) (λ r. c.given.ensures.ruled first played r stands) in
+    next d m given (g.P.Player.rule first) allows runs played c.args.rows.now.last c.drive.new.row c.requires.mapped ruled at
+    (c.drive.ensures.row d) (c.drive.ensures.fresh ∙ c.is_fresh-rows.ensures) c.swap.new.y c.swap.ensures.y_after
+    (g.S.Stage.runs c.clock.new.self) (g.S.Stage.map c.drive.new.self) (c.drive.ensures.map ∙ c.requires.mapped)
+    (λ s on. c.clock.ensures.next d s played c.drive.new.row (c.drive.ensures.runs d s played on) c.drive.ensures.driven) c.in_default.ensures
+
+pub returns-clause-stable : goal.returns-clause-stable
+returns-clause-stable g c same played is stable = stable-kept c.args.map.now.channels played c.args.rows.now.last c.drive.new.row c.swap.new.y
+    c.swap.ensures.y_after stable is c.in_default.ensures
+
+pub returns-clause-rows : goal.returns-clause-rows
+returns-clause-rows g c = record {
+  places = ap (λ (r : Row). length r.contents) c.swap.ensures.x_after
+      ∙ sym (fit-length (all_widths c.args.map.now.channels) c.args.rows.now.last.contents c.requires.rows.over.contents);
+  over = subst (λ (r : Row). IsOver c.args.map.now.channels r) (sym c.swap.ensures.y_after)
+      (subst (λ (m : Map). IsOver m.channels c.drive.new.row) c.requires.mapped c.drive.ensures.over);
+}
