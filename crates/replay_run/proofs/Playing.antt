@@ -1,6 +1,6 @@
 -- The player of a replay, over plain values.
-use Rattle.std.proofs.Common.{◌≡◌, ℕ, ◌+◌, ◌-◌, ◌<◌, ◌≤◌, ◌&&◌, ◌==◌, Bool, true, false, not, cond, List, [], ◌∷◌, ◌++◌, Option, Some, None}
-use Rattle.std.proofs.Common.{length, slice_index, take, refl, ap, sym, subst, ◌∙◌, arith}
+use Rattle.std.proofs.Common.{◌≡◌, ℕ, ◌+◌, ◌-◌, ◌<◌, ◌&&◌, ◌==◌, Bool, true, false, not, cond, List, [], ◌∷◌, ◌++◌, Option, Some, None}
+use Rattle.std.proofs.Common.{length, take, refl, ap, sym, subst, ◌∙◌, arith}
 use Rattle.std.proofs.Math.Logic.{∥∥₁_elim, ∥∥₁_map}
 use Rattle.std.proofs.Props.{props}
 use Rattle.std.specs.Int.{bit_at}
@@ -13,7 +13,6 @@ use Rattle.trace_code.specs.trace_model.declared.event.Kind.TheVariants.{Start, 
 use Rattle.trace_code.specs.trace_model.declared.packet.Packet.{Packet}
 use Rattle.trace_code.specs.trace_model.declared.row.Row.{Row}
 use Rattle.trace_code.specs.trace_model.declared.trace.Trace.{Trace}
-use Rattle.trace_code.specs.trace_model.Channel.{IsTable}
 use Rattle.trace_code.specs.trace_model.Packet.{count}
 use Rattle.trace_code.specs.trace_model.Recording.{row_does, shown}
 use Rattle.trace_code.specs.trace_model.Row.{flies_after, is_in_flight, row_before, IsOver}
@@ -77,7 +76,7 @@ module _ (m : Map) (packets : List Packet) (rows : List Row) (last : Row) (some 
 
 -- ---- the rows of one trace
 module _ (first : Feeder) (m : Map) (same : first.map.now ≡ m) (t : Trace) (is : IsAt t [] first) where
-  replay-of : (d : Design) (rows : List Row) → IsPlayed d m (IsNextRow first) rows → IsReplay d m t.packets rows
+  abbrev replay-of : (d : Design) (rows : List Row) → IsPlayed d m (IsNextRow first) rows → IsReplay d m t.packets rows
   replay-of d rows played = record {
     marked = played.marked;
     driven = played.driven;
@@ -162,15 +161,9 @@ over-last m rule rows row ruled = ∥∥₁_elim ruled.played (over_prop m row)
     (λ (x : (d : Design) × IsPlayed d m rule (rows ++ row ∷ [])). (x.1.marked (length rows) row (slice_get-last rows row)).0)
 
 -- what is kept, on the map's channels
-module _ (first feeder : Feeder) (rows : List Row) (is : StandsBehind first feeder rows) where
-  pub table-here : IsTable feeder.map.now.channels
-  table-here = subst (λ (m : Map). IsTable m.channels) (sym is.map) is.table
-
-  pub kept-here : AreKept feeder.map.now.channels (first.cycles - length rows) rows feeder
-  kept-here = subst (λ (m : Map). AreKept m.channels (first.cycles - length rows) rows feeder) (sym is.map) is.kept
-
-  pub at-here : IsAt is.trace rows feeder
-  at-here = is.at is.trace is.opened
+pub kept-here : (first feeder : Feeder) (rows : List Row) → StandsBehind first feeder rows
+    → AreKept feeder.map.now.channels (first.cycles - length rows) rows feeder
+kept-here first feeder rows is = subst (λ (m : Map). AreKept m.channels (first.cycles - length rows) rows feeder) (sym is.map) is.kept
 
 -- room for the rows that are left
 pub room-left : (most : ℕ) (rows : List Row) (row : Row) → length rows < most → most - length rows ≡ (most - length (rows ++ row ∷ [])) + 1

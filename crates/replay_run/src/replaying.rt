@@ -64,8 +64,13 @@ fn outcome_of(ending: Ending, lists: Lists, feeder: &Feeder, last: &Row) -> Repl
         Ending::Unstable { channel, cycle } => ReplayOutcome::Unstable { channel, cycle },
         Ending::Whole => {
             let channels = &feeder.map.channels;
-            let (held, waits) =
-                held_and_waits(lists, channels, &feeder.cursors, &feeder.have, last);
+            let (held, waits) = held_and_waits(
+                lists,
+                channels,
+                &feeder.cursors,
+                &feeder.have,
+                last,
+            );
             ReplayOutcome::Short { held, waits }
         }
     }
