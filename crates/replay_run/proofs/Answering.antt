@@ -1,5 +1,6 @@
 -- What is answered behind the last cycle, over plain values.
 use Rattle.std.proofs.Common.{◌≡◌, ℕ, ◌+◌, ◌≤◌, List, length, cond, ap, sym, subst, ◌∙◌, arith}
+use Rattle.std.proofs.lemmas.Grind.{merely}
 use Rattle.trace_code.specs.trace_model.declared.channel.Channel.{Channel}
 use Rattle.trace_code.specs.trace_model.declared.packet.TheConstants.{MOST_CYCLES}
 use Rattle.trace_code.specs.trace_model.declared.packet.Packet.{Packet}
@@ -12,30 +13,31 @@ use Rattle.trace_code.specs.trace_model.Trace.{IsWellFormed}
 use Rattle.trace_code.specs.Encoding.{encode, HasEncoding}
 use Rattle.net_design.specs.declared.design.Design.{Design}
 use Rattle.net_design.specs.declared.values.Values.{Values}
-use Rattle.chan_replayer.specs.chan_map.declared.pins.Map.{Map}
-use Rattle.chan_replayer.specs.run_model.Replay.{done}
-use Rattle.chan_replayer.proofs.run_model_lemmas.Circle.{no-circle}
-use Rattle.chan_replayer.proofs.run_model_lemmas.ReplayLaws.{order-in_the_output, replay-keeps_contents}
+use Rattle.run_stage.specs.chan_map.declared.pins.Map.{Map}
+use Rattle.run_stage.specs.run_model.Replay.{done, IsReplay, IsReplayRow}
+use Rattle.run_stage.specs.Playing.{Plays}
+use Rattle.run_stage.proofs.run_model_lemmas.Circle.{no-circle}
+use Rattle.run_stage.proofs.run_model_lemmas.ReplayLaws.{order-in_the_output, replay-keeps_contents}
 use Rattle.replay_run.specs.declared.outcome.Replayed.{Replayed}
 use Rattle.replay_run.specs.declared.outcome.ReplayOutcome.{ReplayOutcome}
 use Rattle.replay_run.specs.declared.outcome.ReplayOutcome.TheVariants.{Ended, Short, Unstable}
-use Rattle.replay_run.specs.declared.play.Cells.{Cells}
+use Rattle.replay_run.specs.declared.feeder.Feeder.{Feeder}
 use Rattle.replay_run.specs.Lists.{IsKept}
 use Rattle.replay_run.specs.Replaying.{EndsAs, GoesInNoCircle, IsReplayed}
-use Rattle.replay_run.specs.Standing.{AreKept, Plays}
-use Rattle.replay_run.proofs.Looping.{balance, flight-last}
+use Rattle.replay_run.specs.Standing.{AreKept}
+use Rattle.replay_run.proofs.Playing.{balance, flight-last}
 use Rattle.replay_run.proofs.Writing.{packets-few}
 
 -- what is kept is what the lists are made of
 pub kept-rows : (d : Design) (m : Map) (packets : List Packet) (runs : Design → Values → List Row → Type 0) (rows : List Row) (n : ℕ)
-    (cells : Cells) → Plays d m packets runs cells.last rows → AreKept m.channels n rows cells
-    → IsKept (length m.channels) rows cells.have cells.last
-kept-rows d m packets runs rows n cells at kept = record {
+    (feeder : Feeder) (last : Row) → Plays d m (IsReplayRow m.channels packets) runs last rows → AreKept m.channels n rows feeder
+    → IsKept (length m.channels) rows feeder.have last
+kept-rows d m packets runs rows n feeder last at kept = record {
   long = kept.long;
   counts = kept.counts;
-  flight = λ c l. flight-last (row_before rows (length rows)) cells.last c at.last_is;
-  starts = λ c l. balance d m packets runs cells.last rows at c
-      ∙ ap (λ b. done rows c + cond b 1 0) (flight-last (row_before rows (length rows)) cells.last c at.last_is);
+  flight = λ c l. flight-last (row_before rows (length rows)) last c at.last_is;
+  starts = λ c l. balance m packets rows last (merely {P = (e : Design) × IsReplay e m packets rows} (d, at.played)) at.stable at.last_is c
+      ∙ ap (λ b. done rows c + cond b 1 0) (flight-last (row_before rows (length rows)) last c at.last_is);
 }
 
 -- a replay has at most as many rows as cycles
@@ -59,10 +61,10 @@ well-formed : (t : Trace) (channels : List Channel) → t.channels ≡ channels 
 well-formed t channels e has = subst (λ (cs : List Channel). IsWellFormed (record { channels = cs; packets = t.packets })) e has.well_formed
 
 pub replayed : (d : Design) (m : Map) (t : Trace) (n : ℕ) (runs : Design → Values → List Row → Type 0) (last : Row) (rows : List Row)
-    (answer : Replayed) → t.channels ≡ m.channels → HasEncoding t → n ≤ MOST_CYCLES → Plays d m t.packets runs last rows
+    (answer : Replayed) → t.channels ≡ m.channels → HasEncoding t → n ≤ MOST_CYCLES → Plays d m (IsReplayRow m.channels t.packets) runs last rows
     → EndsAs d m t.packets n rows answer.outcome → answer.out ≡ encode (trace_of m.channels rows) → IsReplayed d m t.packets n runs answer
 replayed d m t n runs last rows answer same has small at ends out =
-    let laws = replay-keeps_contents d m t.packets rows at.replay at.stable in
+    let laws = replay-keeps_contents d m t.packets rows at.played at.stable in
     let few = few-rows d m t.packets n rows answer.outcome ends in
     let packets = packets-few m.channels rows in
     record {
@@ -76,9 +78,9 @@ replayed d m t n runs last rows answer same has small at ends out =
         },
         sym out,
       );
-      driven = at.replay.driven;
+      driven = at.played.driven;
       stands = at.at;
-      order = order-in_the_output d m t.packets rows at.replay at.stable;
+      order = order-in_the_output d m t.packets rows at.played at.stable;
       contents = laws.0;
       free = no-circle-in d m t.packets n rows answer.outcome (well-formed t m.channels same has) ends;
     }

@@ -26,11 +26,11 @@ use Rattle.trace_code.proofs.trace_model_lemmas.MaskLemmas.{no-bit-from-has}
 use Rattle.trace_code.proofs.trace_model_lemmas.RowLemmas.{first_of, first-more, replaced-more}
 use Rattle.trace_code.specs.declared.cursor.Cursor.{Cursor}
 use Rattle.trace_code.specs.Stands.{Stands}
-use Rattle.chan_replayer.proofs.FedOffers.{named-within}
-use Rattle.chan_replayer.proofs.run_model_lemmas.Contents.{fit-zeros, has-all}
-use Rattle.chan_replayer.proofs.run_model_lemmas.PinLemmas.{all-at}
-use Rattle.chan_replayer.specs.declared.feed.Feed.{Feed}
-use Rattle.chan_replayer.specs.Feed.{kind_of, need_of, IsFeed, IsFeedAt, IsFeedOver}
+use Rattle.run_stage.proofs.chan_replayer_lemmas.FedOffers.{named-within}
+use Rattle.run_stage.proofs.run_model_lemmas.Contents.{fit-zeros, has-all}
+use Rattle.run_stage.proofs.run_model_lemmas.PinLemmas.{all-at}
+use Rattle.run_stage.specs.chan_replayer.declared.feed.Feed.{Feed}
+use Rattle.run_stage.specs.chan_replayer.Feed.{kind_of, need_of, IsFeed, IsFeedAt, IsFeedOver}
 use Rattle.replay_run.specs.declared.cursors.Cursors.{Cursors}
 use Rattle.replay_run.specs.Behind.{AreBehind, IsBehind}
 use Rattle.replay_run.specs.Feeding.{IsBeside, IsChannelFed, IsClockAt, IsFeedBut, IsSameAt}

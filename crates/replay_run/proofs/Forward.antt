@@ -14,9 +14,9 @@ use Rattle.trace_code.specs.trace_model.Row.{is_in_flight}
 use Rattle.trace_code.specs.trace_model.Trace.{Alternates}
 use Rattle.trace_code.proofs.trace_model_lemmas.FlightLemmas.{balanced-all}
 use Rattle.trace_code.proofs.trace_model_lemmas.CountingLemmas.{nth, slice_get-push}
-use Rattle.chan_replayer.proofs.FedOffers.{one-below, other-bit, top-bit}
-use Rattle.chan_replayer.proofs.Masks.{has-and}
-use Rattle.chan_replayer.proofs.run_model_lemmas.PinLemmas.{all-at}
+use Rattle.run_stage.proofs.chan_replayer_lemmas.FedOffers.{one-below, other-bit, top-bit}
+use Rattle.run_stage.proofs.chan_replayer_lemmas.Masks.{has-and}
+use Rattle.run_stage.proofs.run_model_lemmas.PinLemmas.{all-at}
 use Rattle.replay_run.proofs.Placing.{still-below}
 use Rattle.trace_code.specs.declared.cursor.Cursor.{Cursor}
 use Rattle.trace_code.specs.Encoding.{Encodes}
@@ -28,7 +28,7 @@ use Rattle.std.proofs.Math.ListN.{length-set}
 use Rattle.trace_code.specs.vidi_bits.Number.{has}
 use Rattle.trace_code.proofs.trace_model_lemmas.MaskLemmas.{bit-from-has, no-bit-from-has}
 use Rattle.trace_code.proofs.vidi_bits_lemmas.BitLemmas.{has-above, hasn't-from-bit}
-use Rattle.chan_replayer.proofs.run_model_lemmas.Contents.{same-masks}
+use Rattle.run_stage.proofs.run_model_lemmas.Contents.{same-masks}
 use Rattle.std.proofs.lemmas.Bool.{cases_eq, lt-ltb, le-ltb}
 use Rattle.std.proofs.lemmas.Option.{same_Some, slice_get-get_or, slice_get_cases, slice_get_read, slice_get_within}
 use Rattle.std.proofs.lemmas.List.{get_or-set_other, get_or-set_same, take_at}

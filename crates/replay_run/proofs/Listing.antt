@@ -22,11 +22,11 @@ use Rattle.trace_code.specs.trace_model.Recording.{shown}
 use Rattle.trace_code.proofs.trace_model_lemmas.CountingLemmas.{nth, nth-below, slice_get-append, slice_get-last, slice_get-push}
 use Rattle.trace_code.specs.declared.cursor.Cursor.{Cursor}
 use Rattle.trace_code.specs.Stands.{Stands}
-use Rattle.chan_replayer.specs.run_model.declared.held.Await.{Await}
-use Rattle.chan_replayer.specs.run_model.declared.held.Held.{Held}
-use Rattle.chan_replayer.specs.run_model.Held.{await_on, awaits, controlled, event, flies, held_at, held_event, held_if, is_held, next_event, packet_place, recorded_next}
-use Rattle.chan_replayer.specs.run_model.Replay.{done}
-use Rattle.chan_replayer.proofs.run_model_lemmas.EventPlaces.{nth-place, place-is}
+use Rattle.run_stage.specs.run_model.declared.held.Await.{Await}
+use Rattle.run_stage.specs.run_model.declared.held.Held.{Held}
+use Rattle.run_stage.specs.run_model.Held.{await_on, awaits, controlled, event, flies, held_at, held_event, held_if, is_held, next_event, packet_place, recorded_next}
+use Rattle.run_stage.specs.run_model.Replay.{done}
+use Rattle.run_stage.proofs.run_model_lemmas.EventPlaces.{nth-place, place-is}
 use Rattle.replay_run.specs.Behind.{IsBehind}
 use Rattle.replay_run.specs.Lists.{AreSpare}
 use Rattle.replay_run.proofs.Forward.{ended-when, more}

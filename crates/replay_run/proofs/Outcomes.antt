@@ -11,15 +11,15 @@ use Rattle.trace_code.specs.trace_model.Row.{row_before}
 use Rattle.trace_code.specs.trace_model.Stability.{IsLowestUnstable, IsUnstable}
 use Rattle.trace_code.proofs.trace_model_lemmas.CountingLemmas.{slice_get-take}
 use Rattle.net_design.specs.declared.design.Design.{Design}
-use Rattle.chan_replayer.specs.chan_map.declared.pins.Map.{Map}
-use Rattle.chan_replayer.specs.run_model.declared.held.Held.{Held}
-use Rattle.chan_replayer.specs.run_model.Held.{held, waits}
-use Rattle.chan_replayer.specs.run_model.Played.{AreStable, StopsBefore}
-use Rattle.chan_replayer.specs.run_model.Replay.{HasEnded, IsGoing, IsReplay, IsReplayRow}
-use Rattle.chan_replayer.proofs.run_model_lemmas.Deciding.{ended-or-not}
-use Rattle.chan_replayer.proofs.run_model_lemmas.PlayedLaws.{played-front, row-before_take}
-use Rattle.chan_replayer.proofs.run_model_lemmas.ReplayLaws.{one-replay}
-use Rattle.chan_replayer.proofs.run_model_lemmas.Unstable.{lowest, lowest-one, row-at, stable-next, stops-here}
+use Rattle.run_stage.specs.chan_map.declared.pins.Map.{Map}
+use Rattle.run_stage.specs.run_model.declared.held.Held.{Held}
+use Rattle.run_stage.specs.run_model.Held.{held, waits}
+use Rattle.run_stage.specs.run_model.Played.{AreStable, StopsBefore}
+use Rattle.run_stage.specs.run_model.Replay.{HasEnded, IsGoing, IsReplay, IsReplayRow}
+use Rattle.run_stage.proofs.run_model_lemmas.Deciding.{ended-or-not}
+use Rattle.run_stage.proofs.run_model_lemmas.PlayedLaws.{played-front, row-before_take}
+use Rattle.run_stage.proofs.run_model_lemmas.ReplayLaws.{one-replay}
+use Rattle.run_stage.proofs.run_model_lemmas.Unstable.{lowest, lowest-one, row-at, stable-next, stops-here}
 use Rattle.replay_run.specs.declared.outcome.ReplayOutcome.{ReplayOutcome}
 use Rattle.replay_run.specs.declared.outcome.ReplayOutcome.TheVariants.{Ended, Short, Unstable}
 use Rattle.replay_run.specs.Laws.{OneOutcome}

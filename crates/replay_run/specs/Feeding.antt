@@ -10,8 +10,8 @@ use Rattle.trace_code.specs.trace_model.Packet.{does}
 use Rattle.trace_code.specs.trace_model.Row.{content_at}
 use Rattle.trace_code.specs.declared.cursor.Cursor.{Cursor}
 use Rattle.trace_code.specs.Stands.{Stands}
-use Rattle.chan_replayer.specs.declared.feed.Feed.{Feed}
-use Rattle.chan_replayer.specs.Feed.{kind_of, need_of, IsFeedAt}
+use Rattle.run_stage.specs.chan_replayer.declared.feed.Feed.{Feed}
+use Rattle.run_stage.specs.chan_replayer.Feed.{kind_of, need_of, IsFeedAt}
 
 -- two feeds say the same of channel c
 pub record IsSameAt (channels : List Channel) (c : ℕ) (old new : Feed) : Type 0 where

@@ -3,8 +3,8 @@ use Rattle.std.specs.Prelude.{◌≡◌, ℕ, List}
 use Rattle.trace_code.specs.trace_model.declared.packet.Packet.{Packet}
 use Rattle.trace_code.specs.trace_model.declared.row.Row.{Row}
 use Rattle.net_design.specs.declared.design.Design.{Design}
-use Rattle.chan_replayer.specs.chan_map.declared.pins.Map.{Map}
-use Rattle.chan_replayer.specs.run_model.Laws.{ContentsFit, IsReady}
+use Rattle.run_stage.specs.chan_map.declared.pins.Map.{Map}
+use Rattle.run_stage.specs.run_model.Laws.{ContentsFit, IsReady}
 use Rattle.replay_run.specs.declared.outcome.ReplayOutcome.{ReplayOutcome}
 use Rattle.replay_run.specs.Replaying.{EndsAs}
 

@@ -5,9 +5,9 @@ use Rattle.trace_code.specs.trace_model.declared.event.Kind.TheVariants.{Start}
 use Rattle.trace_code.specs.trace_model.declared.row.Row.{Row}
 use Rattle.trace_code.specs.trace_model.Recording.{shown}
 use Rattle.trace_code.specs.trace_model.Row.{is_in_flight}
-use Rattle.chan_replayer.specs.run_model.Held.{flies}
-use Rattle.chan_replayer.specs.run_model.Replay.{done}
-use Rattle.chan_replayer.specs.run_model.declared.held.Await.{Await}
+use Rattle.run_stage.specs.run_model.Held.{flies}
+use Rattle.run_stage.specs.run_model.Replay.{done}
+use Rattle.run_stage.specs.run_model.declared.held.Await.{Await}
 use Rattle.replay_run.specs.declared.lists.Lists.{Lists}
 
 -- what is kept of rows over n channels: how many transactions of each have completed, and a row with what is in flight after them

@@ -7,11 +7,11 @@ use Rattle.trace_code.specs.trace_model.Recording.{packets_of, trace_of}
 use Rattle.trace_code.specs.Encoding.{Encodes}
 use Rattle.net_design.specs.declared.design.Design.{Design}
 use Rattle.net_design.specs.declared.values.Values.{Values}
-use Rattle.chan_replayer.specs.chan_map.declared.pins.Map.{Map}
-use Rattle.chan_replayer.specs.run_model.Held.{held, waits}
-use Rattle.chan_replayer.specs.run_model.Laws.{AreInOrder, ContentsStay, IsFirstOpen, IsFree}
-use Rattle.chan_replayer.specs.run_model.Played.{IsDriven}
-use Rattle.chan_replayer.specs.run_model.Replay.{IsEndedReplay, IsShortReplay, IsUnstableReplay}
+use Rattle.run_stage.specs.chan_map.declared.pins.Map.{Map}
+use Rattle.run_stage.specs.run_model.Held.{held, waits}
+use Rattle.run_stage.specs.run_model.Laws.{AreInOrder, ContentsStay, IsFirstOpen, IsFree}
+use Rattle.run_stage.specs.run_model.Played.{IsDriven}
+use Rattle.run_stage.specs.run_model.Replay.{IsEndedReplay, IsShortReplay, IsUnstableReplay}
 use Rattle.replay_run.specs.declared.outcome.Replayed.{Replayed}
 use Rattle.replay_run.specs.declared.outcome.ReplayOutcome.{ReplayOutcome}
 use Rattle.replay_run.specs.declared.outcome.ReplayOutcome.TheVariants.{Ended, Short, Unstable}

@@ -11,13 +11,13 @@ ghost use Rattle.trace_code.specs.trace_model.Counting.{IsNth};
 ghost use Rattle.trace_code.specs.trace_model.Packet.{content_of, count, does, widths_of};
 ghost use Rattle.trace_code.specs.trace_model.Row.{all_widths, replaced};
 ghost use Rattle.trace_code.specs.Stands.{Stands};
-ghost use Rattle.chan_replayer.specs.Feed.{need_of, IsFeed, IsFeedAt, IsFeedOver};
+ghost use Rattle.run_stage.specs.chan_replayer.Feed.{need_of, IsFeed, IsFeedAt, IsFeedOver};
 ghost use Rattle.replay_run.specs.Behind.{none_yet, AreBehind, IsBehind};
 ghost use Rattle.replay_run.specs.Feeding.{IsBeside, IsClockAt, IsChannelFed, IsFeedBut, IsSameAt};
 
 use crate::bits::{with_bit_as, without};
 use crate::cursors::{Cursors, cursor_of};
-use chan_replayer::{Feed, Needs, kind_of};
+use run_stage::chan_replayer::{Feed, Needs, kind_of};
 use std::alloc::Global;
 use trace_code::Cursor;
 use trace_code::trace_model::{Channel, Channels, Dir, Kind, lowest, names, row_over};

@@ -7,22 +7,19 @@
 
 mod bits;
 mod cursors;
+mod feeder;
 mod feeding;
 mod laws;
 mod lists;
 mod outcome;
 mod output;
-mod play;
 mod replaying;
-mod turn;
 
-pub use chan_replayer;
-pub use chan_replayer::run_model::{Await, Awaits, Held, Helds};
-pub use chan_replayer::{
-    Feed, Needs, ReplayMachines, ReplayShell, chan_map, chan_monitor, run_model,
-};
 pub use laws::one_outcome;
 pub use outcome::{ReplayOutcome, Replayed};
 pub use replaying::replay;
+pub use run_stage::chan_replayer::{Feed, Needs, ReplayMachines, ReplayShell};
+pub use run_stage::run_model::{Await, Awaits, Held, Helds};
+pub use run_stage::{chan_map, chan_monitor, chan_replayer, run_model};
 pub use trace_code;
 pub use trace_code::{trace_model, vidi_bits};

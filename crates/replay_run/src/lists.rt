@@ -10,13 +10,13 @@ ghost use Rattle.trace_code.specs.trace_model.Clock.{clock};
 ghost use Rattle.trace_code.specs.trace_model.Counting.{IsNth};
 ghost use Rattle.trace_code.specs.trace_model.Packet.{does};
 ghost use Rattle.trace_code.specs.Stands.{Stands};
-ghost use Rattle.chan_replayer.specs.run_model.Held.{await_on, awaits, controlled, event, held, held_event, held_if, is_held, next_event, recorded_next, same_event, waits};
-ghost use Rattle.chan_replayer.specs.run_model.Replay.{done};
+ghost use Rattle.run_stage.specs.run_model.Held.{await_on, awaits, controlled, event, held, held_event, held_if, is_held, next_event, recorded_next, same_event, waits};
+ghost use Rattle.run_stage.specs.run_model.Replay.{done};
 ghost use Rattle.replay_run.specs.Behind.{AreBehind, IsBehind};
 ghost use Rattle.replay_run.specs.Lists.{AreSpare, HasRoom, IsKept};
 
 use crate::cursors::{Cursors, cursor_of};
-use chan_replayer::run_model::{Await, Awaits, Held, Helds};
+use run_stage::run_model::{Await, Awaits, Held, Helds};
 use std::alloc::Global;
 use trace_code::Cursor;
 use trace_code::trace_model::{Channel, Channels, Dir, Event, Events, Kind, Row, is_in_flight};

@@ -1,6 +1,6 @@
 //! What a replay answers.
 
-use chan_replayer::run_model::Helds;
+use run_stage::run_model::Helds;
 use trace_code::trace_model::Events;
 use trace_code::vidi_bits::Bytes;
 

@@ -1,87 +1,76 @@
 //! The replay.
 
-ghost use Rattle.std.specs.Prelude.{◌≡◌, ◌≤◌, [], ℕ, false, List, IfOk, OnErr, length};
+ghost use Rattle.std.specs.Prelude.{◌≡◌, ◌≤◌, [], ℕ, List, IfOk, OnErr, length};
 ghost use Rattle.trace_code.specs.trace_model.declared.packet.TheConstants.{MOST_CYCLES};
 ghost use Rattle.trace_code.specs.trace_model.declared.row.Row.{Row as OneRow};
 ghost use Rattle.trace_code.specs.trace_model.declared.trace.Trace.{Trace};
-ghost use Rattle.trace_code.specs.trace_model.Channel.{IsTable};
-ghost use Rattle.trace_code.specs.trace_model.Row.{IsOver};
 ghost use Rattle.trace_code.specs.Encoding.{Encodes};
 ghost use Rattle.net_design.specs.declared.design.Design.{Design};
 ghost use Rattle.net_design.specs.declared.values.Values.{Values};
-ghost use Rattle.chan_replayer.specs.chan_map.declared.pins.Map.{Map as OneMap};
-ghost use Rattle.chan_replayer.specs.Feed.{IsFeed};
-ghost use Rattle.chan_replayer.specs.run_model.Replay.{done};
-ghost use Rattle.replay_run.specs.Behind.{none_yet, AreBehind};
+ghost use Rattle.run_stage.specs.chan_map.declared.pins.Map.{Map as OneMap};
+ghost use Rattle.run_stage.specs.run_model.Replay.{IsReplayRow};
+ghost use Rattle.run_stage.specs.Playing.{AreOver, Plays};
+ghost use Rattle.replay_run.specs.Behind.{AreBehind};
 ghost use Rattle.replay_run.specs.Lists.{HasRoom, IsKept};
 ghost use Rattle.replay_run.specs.Replaying.{EndsAs, IsReplayed};
-ghost use Rattle.replay_run.specs.Standing.{AreKept, Plays, PlaysTo};
+ghost use Rattle.replay_run.specs.Standing.{IsAt, PlaysTo, StandsBehind};
 
-use crate::cursors::Cursors;
-use crate::feeding::first_feed;
+use crate::feeder::Feeder;
 use crate::lists::{Lists, held_and_waits};
 use crate::outcome::{ReplayOutcome, Replayed};
-use crate::output::Output;
-use crate::play::{Cells, Ending, play};
-use chan_replayer::ReplayShell;
-use chan_replayer::chan_map::Map;
+use run_stage::chan_map::Map;
+use run_stage::chan_replayer::ReplayShell;
+use run_stage::{Ending, TwoRows, play};
 use std::alloc::Global;
-use trace_code::trace_model::{Channels, Row, row_over};
-use trace_code::vec_clock::Clock;
+use trace_code::trace_model::Row;
 use trace_code::vidi_bits::Memory;
 
-/// A row in which nothing is up.
-#[tactic(auto, using(crate::proofs::Silent::silent_over))]
-fn silent_row(alloc: Global, channels: &Channels) -> Result<Row, Memory>
-    ensures { IfOk result (λ row. (row.valids ≡ 0) × IsOver channels.now row × (row.fresh ≡ false)) }
+/// Resets the shell and goes through the cycles of a replay.
+fn played<S: ReplayShell>(
+    shell: &mut S,
+    map: &Map,
+    feeder: &mut Feeder,
+    rows: &mut TwoRows,
+) -> Ending
+    requires mapped { S.map shell.old ≡ map.now }
+    requires same { feeder.old.map.now ≡ map.now }
+    requires stands { StandsBehind feeder.old feeder.old [] }
+    requires rows { AreOver map.now.channels rows.old }
+    requires silent { rows.old.last.valids ≡ 0 }
+    ensures ends { (all : List OneRow) × StandsBehind feeder.old feeder.new all
+        × ((t : Trace) (d : Design) (s : Values) (before : List OneRow) → IsAt t [] feeder.old → S.runs shell.old d s before
+        → PlaysTo d map.now t.packets feeder.old.cycles all result
+        × Plays d map.now (IsReplayRow map.now.channels t.packets) (S.runs shell.new) rows.new.last all) }
+    ensures map { S.map shell.new ≡ S.map shell.old }
 {
-    row_over(alloc, channels)
+    let cycles = feeder.cycles;
+    shell.reset();
+    match play(shell, feeder, map, cycles, rows) {
+        Ok(ending) => ending,
+    }
 }
 
-/// What a replay of at most so many cycles keeps.
-fn open(alloc: Global, channels: &Channels, cursors: &Cursors, cycles: u32) -> Result<Cells, Memory>
-    requires table { IsTable channels.now }
-    requires few { cycles ≤ MOST_CYCLES }
-    requires behind { (t : Trace) × AreBehind t none_yet cursors.now × (t.channels ≡ channels.now) }
-    ensures kept { IfOk result (λ cells. AreKept channels.now cycles [] cells) }
-    ensures fed { IfOk result (λ cells. (t : Trace) → AreBehind t none_yet cursors.now → t.channels ≡ channels.now
-        → IsFeed channels.now t.packets none_yet cells.feed) }
-    ensures silent { IfOk result (λ cells. cells.last.valids ≡ 0) }
-{
-    let feed = first_feed(alloc, cursors, channels)?;
-    let row = row_over(alloc, channels)?;
-    let last = silent_row(alloc, channels)?;
-    let have = Clock::new(alloc, channels.len())?;
-    let output = Output::new(alloc, channels, cycles)?;
-    Ok(Cells {
-        feed,
-        row,
-        last,
-        have,
-        output,
-    })
-}
-
-/// How a replay ends, with the lists of *End of replay* where it is short.
-fn outcome_of(
-    ending: Ending,
-    lists: Lists,
-    channels: &Channels,
-    cursors: &Cursors,
-    cells: &Cells,
-) -> ReplayOutcome
-    requires room { HasRoom (length channels.now) lists }
-    requires long { length cells.now.have ≡ length channels.now }
-    requires behind { (t : Trace) × (have : ℕ → ℕ) × AreBehind t have cursors.now × (t.channels ≡ channels.now) }
-    ensures { (t : Trace) (d : Design) (m : OneMap) (n : ℕ) (rows : List OneRow) → AreBehind t (done rows) cursors.now
-        → t.channels ≡ channels.now → m.channels ≡ channels.now → IsKept (length channels.now) rows cells.now.have cells.now.last
+/// How a replay ends, with the lists of *End of replay* where it is short. The last row is that before.
+fn outcome_of(ending: Ending, lists: Lists, feeder: &Feeder, last: &Row) -> ReplayOutcome
+    requires room { HasRoom (length feeder.now.map.now.channels) lists }
+    requires long { length feeder.now.have ≡ length feeder.now.map.now.channels }
+    requires behind { (t : Trace) × (have : ℕ → ℕ) × AreBehind t have feeder.now.cursors × (t.channels ≡ feeder.now.map.now.channels) }
+    ensures { (t : Trace) (d : Design) (m : OneMap) (n : ℕ) (rows : List OneRow) → IsAt t rows feeder.now
+        → m.channels ≡ feeder.now.map.now.channels → IsKept (length m.channels) rows feeder.now.have last.now
         → PlaysTo d m t.packets n rows ending → EndsAs d m t.packets n rows result }
 {
     match ending {
-        Ending::Ended { cycles } => ReplayOutcome::Ended { cycles },
+        Ending::Done { cycles } => ReplayOutcome::Ended { cycles },
         Ending::Unstable { channel, cycle } => ReplayOutcome::Unstable { channel, cycle },
-        Ending::Short => {
-            let (held, waits) = held_and_waits(lists, channels, cursors, &cells.have, &cells.last);
+        Ending::Whole => {
+            let channels = &feeder.map.channels;
+            let (held, waits) = held_and_waits(
+                lists,
+                channels,
+                &feeder.cursors,
+                &feeder.have,
+                last,
+            );
             ReplayOutcome::Short { held, waits }
         }
     }
@@ -110,13 +99,12 @@ pub fn replay<S: ReplayShell>(
     ensures memory { OnErr result (shell.new ≡ shell.old) }
     ensures map { S.map shell.new ≡ S.map shell.old }
 {
-    let channels = &map.channels;
-    let mut cursors = Cursors::open(alloc, trace, channels.len())?;
-    let mut cells = open(alloc, channels, &cursors, cycles)?;
-    let lists = Lists::new(alloc, channels.len())?;
-    let ending = play(shell, map, &mut cursors, cycles, &mut cells);
-    let outcome = outcome_of(ending, lists, channels, &cursors, &cells);
-    let Cells { output, .. } = cells;
+    let mut feeder = Feeder::new(alloc, map, trace, cycles)?;
+    let mut rows = TwoRows::new(alloc, &map.channels)?;
+    let lists = Lists::new(alloc, map.channels.len())?;
+    let ending = played(shell, map, &mut feeder, &mut rows);
+    let outcome = outcome_of(ending, lists, &feeder, &rows.last);
+    let Feeder { output, .. } = feeder;
     let out = output.close();
     Ok(Replayed { outcome, out })
 }

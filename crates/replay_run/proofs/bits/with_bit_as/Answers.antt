@@ -1,5 +1,5 @@
 use Rattle.std.proofs.Common.{sym, ◌∙◌}
-use Rattle.chan_replayer.proofs.Masks.{bit-cut, bit-cut_other, bit-put, bit-put_other}
+use Rattle.run_stage.proofs.chan_replayer_lemmas.Masks.{bit-cut, bit-cut_other, bit-put, bit-put_other}
 use Rattle.replay_run.proofs.bits.with_bit_as.Goals as goal
 
 pub returns-then-up-clause-here : goal.returns-then-up-clause-here

@@ -1,6 +1,6 @@
 use Rattle.std.proofs.Common.{◌-◌, ◌^◌}
 use Rattle.std.proofs.lemmas.Nat.{and_le_l}
-use Rattle.chan_replayer.proofs.Masks.{has-without}
+use Rattle.run_stage.proofs.chan_replayer_lemmas.Masks.{has-without}
 use Rattle.replay_run.proofs.bits.without.Goals as goal
 
 pub returns : goal.returns

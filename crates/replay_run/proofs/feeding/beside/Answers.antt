@@ -2,8 +2,8 @@ use Rattle.std.proofs.Common.{length, slice_get, refl, ap, sym, ◌∙◌, arith
 use Rattle.std.proofs.lemmas.Option.{slice_get_read}
 use Rattle.trace_code.specs.trace_model.declared.channel.Channel.{Channel}
 use Rattle.trace_code.proofs.trace_model_lemmas.MaskLemmas.{has-from-bit}
-use Rattle.chan_replayer.specs.Feed.{kind_of}
-use Rattle.chan_replayer.proofs.FedOffers.{named-within}
+use Rattle.run_stage.specs.chan_replayer.Feed.{kind_of}
+use Rattle.run_stage.proofs.chan_replayer_lemmas.FedOffers.{named-within}
 use Rattle.replay_run.proofs.Fills.{beside-is, less-without, no-reset, within-without}
 use Rattle.replay_run.proofs.feeding.beside.Goals as goal
 

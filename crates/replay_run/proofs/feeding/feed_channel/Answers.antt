@@ -3,7 +3,7 @@ use Rattle.std.proofs.lemmas.Option.{same_Some, slice_get_read}
 use Rattle.trace_code.specs.trace_model.declared.channel.Channel.{Channel}
 use Rattle.trace_code.specs.trace_model.declared.channel.Dir.{Dir}
 use Rattle.trace_code.specs.trace_model.declared.event.Kind.{Kind}
-use Rattle.chan_replayer.specs.Feed.{kind_of, IsFeedAt}
+use Rattle.run_stage.specs.chan_replayer.Feed.{kind_of, IsFeedAt}
 use Rattle.replay_run.specs.Behind.{IsBehind}
 use Rattle.replay_run.proofs.Fills.{beside-there, clocks-beside, no-reset}
 use Rattle.replay_run.proofs.feeding.feed_channel.Goals as goal

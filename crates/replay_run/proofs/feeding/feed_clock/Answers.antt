@@ -1,6 +1,6 @@
 use Rattle.std.proofs.Common.{◌<◌, get_or, ap, sym, subst, ◌∙◌, arith}
 use Rattle.std.specs.Prelude.{IfSome}
-use Rattle.chan_replayer.proofs.Sharing.{number-at}
+use Rattle.run_stage.proofs.chan_replayer_lemmas.Sharing.{number-at}
 use Rattle.replay_run.specs.Feeding.{IsClockAt}
 use Rattle.replay_run.proofs.feeding.feed_clock.Goals as goal
 

@@ -2,7 +2,7 @@ use Rattle.std.proofs.Common.{◌≡◌, ◌<◌, ◌≤◌, ◌*◌, ℕ, false
 use Rattle.trace_code.specs.vidi_bits.Number.{has}
 use Rattle.trace_code.specs.trace_model.declared.trace.Trace.{Trace}
 use Rattle.trace_code.specs.trace_model.Row.{all_widths}
-use Rattle.chan_replayer.specs.Feed.{IsFeedOver}
+use Rattle.run_stage.specs.chan_replayer.Feed.{IsFeedOver}
 use Rattle.replay_run.specs.Behind.{AreBehind}
 use Rattle.replay_run.specs.Feeding.{IsFeedBut}
 use Rattle.replay_run.proofs.feeding.fill.Given as goal

@@ -1,6 +1,6 @@
 use Rattle.std.proofs.Common.{List, length, ap, sym, subst, ◌∙◌, arith}
 use Rattle.trace_code.specs.trace_model.declared.channel.Channel.{Channel}
-use Rattle.chan_replayer.specs.Feed.{IsFeed}
+use Rattle.run_stage.specs.chan_replayer.Feed.{IsFeed}
 use Rattle.replay_run.specs.Behind.{none_yet}
 use Rattle.replay_run.proofs.Fills.{but-all}
 use Rattle.replay_run.proofs.feeding.first_feed.Goals as goal

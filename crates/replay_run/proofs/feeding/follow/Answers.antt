@@ -1,7 +1,7 @@
 use Rattle.std.proofs.Common.{List, ℕ, ◌+◌, sym, subst, ◌∙◌}
 use Rattle.std.specs.Int.{bit_at}
 use Rattle.trace_code.specs.trace_model.declared.channel.Channel.{Channel}
-use Rattle.chan_replayer.specs.Feed.{IsFeed}
+use Rattle.run_stage.specs.chan_replayer.Feed.{IsFeed}
 use Rattle.replay_run.proofs.Fills.{but-next}
 use Rattle.replay_run.proofs.feeding.follow.Goals as goal
 

@@ -1,7 +1,7 @@
 use Rattle.std.proofs.Common.{ap, ◌∙◌}
 use Rattle.trace_code.specs.trace_model.Packet.{content_of}
 use Rattle.trace_code.specs.trace_model.Row.{replaced}
-use Rattle.chan_replayer.proofs.chan_monitor_lemmas.RowOfCycle.{refill-is}
+use Rattle.run_stage.proofs.chan_monitor_lemmas.RowOfCycle.{refill-is}
 use Rattle.replay_run.proofs.feeding.write_content.Goals as goal
 
 pub returns : goal.returns

@@ -1,5 +1,5 @@
 use Rattle.std.proofs.Common.{◌≡◌, drop}
-use Rattle.chan_replayer.specs.run_model.Held.{is_held}
+use Rattle.run_stage.specs.run_model.Held.{is_held}
 use Rattle.replay_run.proofs.lists.is_held.Given as goal
 
 abbrev pub invariant-loop-held : goal.invariant-loop-held

@@ -2,7 +2,7 @@ use Rattle.std.proofs.Common.{List, ℕ, subst, sym, length, ◌<◌, ◌++◌, 
 use Rattle.std.specs.Prelude.{slice_index}
 use Rattle.trace_code.specs.trace_model.declared.channel.Channel.{Channel}
 use Rattle.trace_code.specs.trace_model.Clock.{clock}
-use Rattle.chan_replayer.specs.run_model.Held.{await_on, awaits}
+use Rattle.run_stage.specs.run_model.Held.{await_on, awaits}
 use Rattle.replay_run.proofs.Listing.{await-here, walk-done, walk-on}
 use Rattle.replay_run.proofs.lists.list_awaits.Goals as goal
 

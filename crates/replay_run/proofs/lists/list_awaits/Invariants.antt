@@ -7,7 +7,7 @@ use Rattle.trace_code.specs.trace_model.declared.trace.Trace.{Trace}
 use Rattle.trace_code.specs.trace_model.Clock.{clock}
 use Rattle.trace_code.specs.trace_model.Counting.{IsNth}
 use Rattle.trace_code.specs.trace_model.Packet.{does}
-use Rattle.chan_replayer.specs.run_model.Held.{await_on, awaits}
+use Rattle.run_stage.specs.run_model.Held.{await_on, awaits}
 use Rattle.trace_code.specs.Stands.{Stands}
 use Rattle.replay_run.proofs.lists.list_awaits.Given as goal
 

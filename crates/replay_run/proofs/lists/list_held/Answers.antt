@@ -1,7 +1,7 @@
 use Rattle.std.proofs.Common.{ℕ, ◌≡◌, ◌+◌, ◌-◌, length, subst, ◌∙◌, arith}
 use Rattle.std.specs.List.{flat_map}
 use Rattle.trace_code.specs.trace_model.declared.channel.Channel.{Channel}
-use Rattle.chan_replayer.specs.run_model.Held.{controlled, held, held_event}
+use Rattle.run_stage.specs.run_model.Held.{controlled, held, held_event}
 use Rattle.replay_run.specs.Lists.{AreSpare}
 use Rattle.replay_run.proofs.Listing.{spare-less, walk-done, walk-on}
 use Rattle.replay_run.proofs.lists.list_held.Goals as goal

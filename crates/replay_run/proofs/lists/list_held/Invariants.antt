@@ -4,8 +4,8 @@ use Rattle.std.specs.List.{enumerate_from, flat_map}
 use Rattle.trace_code.specs.trace_model.declared.channel.Channel.{Channel}
 use Rattle.trace_code.specs.trace_model.declared.row.Row.{Row}
 use Rattle.trace_code.specs.trace_model.declared.trace.Trace.{Trace}
-use Rattle.chan_replayer.specs.run_model.Held.{controlled, held, held_event}
-use Rattle.chan_replayer.specs.run_model.Replay.{done}
+use Rattle.run_stage.specs.run_model.Held.{controlled, held, held_event}
+use Rattle.run_stage.specs.run_model.Replay.{done}
 use Rattle.replay_run.specs.Behind.{AreBehind}
 use Rattle.replay_run.specs.Lists.{AreSpare, IsKept}
 use Rattle.replay_run.proofs.lists.list_held.Given as goal

@@ -2,8 +2,8 @@ use Rattle.std.proofs.Common.{List, ℕ, ◌<◌, not, length, sym, ap, subst, �
 use Rattle.std.specs.List.{enumerate_from, filter, flat_map}
 use Rattle.trace_code.specs.trace_model.declared.channel.Channel.{Channel}
 use Rattle.trace_code.specs.trace_model.declared.event.Event.{Event}
-use Rattle.chan_replayer.specs.run_model.declared.held.Held.{Held}
-use Rattle.chan_replayer.specs.run_model.Held.{is_held, recorded_next}
+use Rattle.run_stage.specs.run_model.declared.held.Held.{Held}
+use Rattle.run_stage.specs.run_model.Held.{is_held, recorded_next}
 use Rattle.replay_run.specs.Lists.{IsKept}
 use Rattle.replay_run.proofs.Listing.{waits_on, waits-each, walk-done, walk-on}
 use Rattle.replay_run.proofs.lists.list_waits.Goals as goal

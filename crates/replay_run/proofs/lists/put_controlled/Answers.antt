@@ -1,7 +1,7 @@
 use Rattle.std.proofs.Common.{◌≡◌, ◌++◌, sym, subst, ◌∙◌}
 use Rattle.std.specs.List.{flat_map}
 use Rattle.trace_code.specs.trace_model.declared.channel.Dir.{Dir}
-use Rattle.chan_replayer.specs.run_model.Held.{controlled, held_event}
+use Rattle.run_stage.specs.run_model.Held.{controlled, held_event}
 use Rattle.replay_run.proofs.Listing.{inward-idle, outward-put}
 use Rattle.replay_run.proofs.lists.put_controlled.Goals as goal
 

@@ -3,8 +3,8 @@ use Rattle.std.specs.Prelude.{slice_index}
 use Rattle.trace_code.specs.trace_model.declared.channel.Channel.{Channel}
 use Rattle.trace_code.specs.trace_model.Clock.{clock}
 use Rattle.trace_code.specs.trace_model.Packet.{count}
-use Rattle.chan_replayer.specs.run_model.Held.{awaits, event}
-use Rattle.chan_replayer.specs.run_model.Replay.{done}
+use Rattle.run_stage.specs.run_model.Held.{awaits, event}
+use Rattle.run_stage.specs.run_model.Replay.{done}
 use Rattle.replay_run.proofs.Listing.{event-past, event-put}
 use Rattle.replay_run.proofs.lists.put_event.Goals as goal
 

@@ -1,6 +1,6 @@
 use Rattle.std.proofs.Common.{min, sym, ◌∙◌}
 use Rattle.trace_code.specs.trace_model.Packet.{count}
-use Rattle.chan_replayer.specs.run_model.Replay.{done}
+use Rattle.run_stage.specs.run_model.Replay.{done}
 use Rattle.replay_run.proofs.Listing.{event-known, wait-held, wait-past, wait-put}
 use Rattle.replay_run.proofs.lists.put_wait.Goals as goal
 use Rattle.replay_run.proofs.lists.put_wait.Goals.{else-not-at_end-via-then-not-at_end+else-not-is_held, else-not-at_end-via-else-not-at_end}

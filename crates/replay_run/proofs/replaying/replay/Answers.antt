@@ -1,6 +1,8 @@
-use Rattle.std.proofs.Common.{◌≡◌, refl, ap, sym, ◌∙◌, length}
+use Rattle.std.proofs.Common.{◌≡◌, ℕ, ◌-◌, ap, subst, sym, ◌∙◌, length}
 use Rattle.trace_code.specs.trace_model.declared.trace.Trace.{Trace}
 use Rattle.trace_code.proofs.Readings as readings
+use Rattle.run_stage.specs.chan_map.declared.pins.Map.{Map}
+use Rattle.replay_run.specs.Standing.{AreKept, PlaysTo}
 use Rattle.replay_run.proofs.Answering.{kept-rows, replayed}
 use Rattle.replay_run.proofs.replaying.replay.Goals as goal
 
@@ -10,10 +12,18 @@ returns-clause-replayed g c t d s before encodes is =
     let given = c.requires.trace in
     let same : t.channels ≡ m.channels =
     ap (λ (u : Trace). u.channels) (readings.one_reading c.args.trace.now t given.0 encodes given.1) ∙ given.2 in
-    let first = c.in_ok-cursors.ensures t encodes (c.len.ensures ∙ ap length (sym same)) in
-    let ends = c.play-ending.ensures.ends in
-    let played = ends.3 t d s before first same (c.in_ok-cells.ensures.fed t first same) is in
-    let outcome = c.outcome_of-outcome.ensures t d m c.args.cycles ends.0 (ends.2 t first) same refl
-    (kept-rows d m t.packets (g.S.ReplayShell.runs c.play-ending.new.shell) ends.0 0 c.play-ending.new.cells played.1 ends.1) played.0 in
-    replayed d m t c.args.cycles (g.S.ReplayShell.runs c.play-ending.new.shell) c.play-ending.new.cells.last ends.0 _ same encodes.0 c.requires.few
-    played.1 outcome (c.close-out.ensures m.channels ends.0 ends.1.written)
+    let first = c.in_ok-feeder.feeder in
+    let made = c.in_ok-feeder.ensures in
+    let opened = made.at t encodes same in
+    let ends = c.played-ending.ensures.ends in
+    let rows = ends.0 in
+    let stands = ends.1 in
+    let feeder = c.played-ending.new.feeder in
+    let last = c.played-ending.new.rows.last in
+    let runs = g.S.ReplayShell.runs c.played-ending.new.shell in
+    let to = ends.2 t d s before opened is in
+    let kept = subst (λ (b : Map). AreKept b.channels (first.cycles - length rows) rows feeder) made.map stands.kept in
+    let outcome = c.outcome_of-outcome.ensures t d m c.args.cycles rows (stands.at t opened)
+    (ap (λ (b : Map). b.channels) (sym (stands.map ∙ made.map))) (kept-rows d m t.packets runs rows (first.cycles - length rows) feeder last to.1 kept)
+    (subst (λ (n : ℕ). PlaysTo d m t.packets n rows c.played-ending.result) made.most to.0) in
+    replayed d m t c.args.cycles runs last rows _ same encodes.0 c.requires.few to.1 outcome (c.close-out.ensures m.channels rows kept.written)
