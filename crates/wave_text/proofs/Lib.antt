@@ -11,7 +11,7 @@ pub mod Rows
 pub mod Law
 pub mod Told
 pub mod DigitLaws
-pub mod Digitwise
+pub mod Eights
 pub mod Fronts
 pub mod RowText
 mod Flick

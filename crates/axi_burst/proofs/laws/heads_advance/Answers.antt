@@ -1,0 +1,5 @@
+use Rattle.axi_burst.proofs.Heads.{heads-advance}
+use Rattle.axi_burst.proofs.laws.heads_advance.Goals as goal
+
+pub returns : goal.returns
+returns c = heads-advance

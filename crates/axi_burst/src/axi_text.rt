@@ -1,0 +1,58 @@
+//! What an AXI file says.
+
+use vidi_lines::vidi_bits::{Items, Name, Numbers};
+
+/// One of the five channels of an AXI4 port (IHI 0022, A1.2).
+#[derive(Clone, Copy, Debug, PartialEq, Eq)]
+pub enum Role {
+    /// `aw`, the write address.
+    WriteAddress,
+    /// `w`, the write data.
+    WriteData,
+    /// `b`, the write response.
+    WriteResponse,
+    /// `ar`, the read address.
+    ReadAddress,
+    /// `r`, the read data.
+    ReadData,
+}
+
+/// Places of content ports from 0, `None` for each word `none`.
+pub type Places = Items<Option<u128>>;
+
+/// What a line of an AXI file says.
+#[derive(Drop)]
+pub enum Entry {
+    /// The channel that has this role, and the places of its words: of an address ID, ADDR, LEN, SIZE and BURST, of `w` LAST,
+    /// of `b` ID, of `r` ID and LAST.
+    Channel {
+        role: Role,
+        channel: Name,
+        places: Places,
+    },
+    /// How many words a memory has.
+    Memory {
+        words: u128,
+    },
+    /// The places of the data and the strobes of `w`, and of the data of `r`.
+    Data {
+        places: Numbers,
+    },
+}
+
+/// What the line with this number, counted from 1, says.
+#[derive(Drop)]
+pub struct AxiLine {
+    pub line: u32,
+    pub entry: Entry,
+}
+
+/// A list of lines that have words, in the order of the text.
+pub type AxiLines = Items<AxiLine>;
+
+/// An AXI file that was read: the data bus's bytes, and what the lines behind the first one with words say.
+#[derive(Drop)]
+pub struct AxiText {
+    pub beat: u32,
+    pub lines: AxiLines,
+}

@@ -1,0 +1,38 @@
+//! Why an AXI file is refused.
+
+ghost use Rattle.std.specs.Prelude.{◌≡◌};
+
+use std::alloc::AllocError;
+use thiserror::Error;
+use vidi_lines::vidi_bits::Memory;
+
+/// Why an AXI file is refused. Lines are counted from 1.
+#[derive(Clone, Copy, Debug, PartialEq, Eq, Error)]
+pub enum AxiError {
+    /// A1: the line that is bad by its bytes, of no form or said before; or the number behind the last line's, where a line is
+    /// missing.
+    #[error("line {line}: no line of an AXI file")]
+    Line { line: u32 },
+    #[error("out of memory")]
+    Memory,
+}
+
+impl From<Memory> for AxiError {
+    ghost use Rattle.axi_burst.specs.declared.error.AxiError.{AxiError};
+
+    ghost from_gives = { λ _ e. e ≡ AxiError.Memory };
+
+    fn from(_error: Memory) -> AxiError {
+        AxiError::Memory
+    }
+}
+
+impl From<AllocError> for AxiError {
+    ghost use Rattle.axi_burst.specs.declared.error.AxiError.{AxiError};
+
+    ghost from_gives = { λ _ e. e ≡ AxiError.Memory };
+
+    fn from(_error: AllocError) -> AxiError {
+        AxiError::Memory
+    }
+}
