@@ -49,7 +49,7 @@ def page(path, fences, pattern):
 
 def language():
     """The cases of docs/LANGUAGE.md."""
-    cases = ["## Made by tools/page_cases.py of docs/LANGUAGE.md.\n"]
+    cases = ["## Made by tools/gate cases of docs/LANGUAGE.md.\n"]
     for text, top, *lines in page("docs/LANGUAGE.md", ["verilog"], TEXT):
         cases += [f"== check text.v {top}\n", part("--", "text.v", text), ending(line for line in lines if line)]
     return "".join(cases)
@@ -62,7 +62,7 @@ def example_file(name, file):
 
 def files():
     """The cases of docs/FILES.md."""
-    cases = ["## Made by tools/page_cases.py of docs/FILES.md.\n** each file in its place among those of examples/pass\n"]
+    cases = ["## Made by tools/gate cases of docs/FILES.md.\n** each file in its place among those of examples/pass\n"]
     cases += [part("--", file, example_file("pass", file)) for file in ("design.v", "map", "script", "stalls")]
     for name, text, command, line in page("docs/FILES.md", ["map", "script", "stalls"], FILE):
         cases += [f"== {WORDS[command]}\n", part("--", name, text), ending([line])]
@@ -92,7 +92,7 @@ def recording(name):
 
 def examples():
     """The cases of the examples."""
-    cases = ["## Made by tools/page_cases.py of examples/.\n"]
+    cases = ["## Made by tools/gate cases of examples/.\n"]
     for name in tool_kit.examples():
         is_recorded = os.path.exists(os.path.join(tool_kit.EXAMPLES, name, "stalls"))
         cases += [f"** {name}\n"]

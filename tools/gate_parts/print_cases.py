@@ -10,7 +10,7 @@ from vidi_tools.tool_kit import Problem
 
 TOP = os.path.join(tool_kit.HERE, "..")
 CASES = os.path.join(TOP, "crates", "vidi_cases", "data", "verilog", "print.case")
-HEAD = "## Made by tools/print_cases.py of examples/ and of the text below it.\n"
+HEAD = "## Made by tools/gate cases of examples/ and of the text below it.\n"
 GAP = re.compile(r"\s+|//[^\n]*|/\*.*?\*/|`(?:timescale|default_nettype)\b[^\n]*", re.S)
 TOKEN = re.compile(r"[A-Za-z_][\w$]*|(?:\d[\d_]*)?'[bodhBODH][\da-fA-F][\da-fA-F_]*|\d[\d_]*|<<<|>>>|[<>=!]=|&&|\|\||<<|>>|~[&|^]|\^~|\+:"
                    r"|[()\[\]{};,.:?#@=+\-*!~&|^<>]")

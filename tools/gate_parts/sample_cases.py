@@ -18,7 +18,7 @@ from gate_parts.page_cases import part
 from vidi_tools.tool_kit import Problem
 
 DATA = os.path.join(tool_kit.HERE, "..", "crates", "vidi_cases", "data", "sample.case")
-HEAD = "## Made by tools/sample_cases.py: a model of the registers, the store and the replayers in Python.\n"
+HEAD = "## Made by tools/gate cases: a model of the registers, the store and the replayers in Python.\n"
 # Bytes of a packet without contents, and what each of two channels of a byte reserves while it is idle.
 PACKET, IDLE = 3, 2 * 3 + 1
 NAMES = "ab"

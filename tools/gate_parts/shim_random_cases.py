@@ -8,7 +8,7 @@ from make_kinds.random_design import made
 from gate_parts.page_cases import part
 
 DATA = os.path.join(tool_kit.HERE, "..", "crates", "vidi_cases", "data", "wrapped", "random.case")
-HEAD = "## Made by tools/shim_random_cases.py of random designs.\n"
+HEAD = "## Made by tools/gate cases of random designs.\n"
 SEEDS, CYCLES = range(1, 51), 200
 
 

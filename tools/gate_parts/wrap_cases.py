@@ -12,7 +12,7 @@ from gate_parts.print_cases import laid_out
 from vidi_tools.tool_kit import Problem
 
 DATA = os.path.join(tool_kit.HERE, "..", "crates", "vidi_cases", "data", "wrapped.case")
-HEAD = "## Made by tools/wrap_cases.py of the designs in it, and of the modules of docs/FILES.md.\n"
+HEAD = "## Made by tools/gate cases of the designs in it, and of the modules of docs/SHIMS.md.\n"
 CLOCKED = "always @ ( posedge clk ) "
 
 
