@@ -26,7 +26,7 @@ use Rattle.replay_run.specs.Lists.{IsKept}
 use Rattle.replay_run.specs.Replaying.{EndsAs, GoesInNoCircle, IsReplayed}
 use Rattle.replay_run.specs.Standing.{AreKept}
 use Rattle.replay_run.proofs.Playing.{balance, flight-last}
-use Rattle.replay_run.proofs.Writing.{packets-few}
+use Rattle.trace_code.proofs.RowBytes.{packets-few}
 
 -- what is kept is what the lists are made of
 pub kept-rows : (d : Design) (m : Map) (packets : List Packet) (runs : Design → Values → List Row → Type 0) (rows : List Row) (n : ℕ)

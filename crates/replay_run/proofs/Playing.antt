@@ -15,9 +15,8 @@ use Rattle.trace_code.specs.trace_model.declared.row.Row.{Row}
 use Rattle.trace_code.specs.trace_model.declared.trace.Trace.{Trace}
 use Rattle.trace_code.specs.trace_model.Packet.{count}
 use Rattle.trace_code.specs.trace_model.Recording.{row_does, shown}
-use Rattle.trace_code.specs.trace_model.Row.{flies_after, is_in_flight, row_before, IsOver}
-use Rattle.trace_code.proofs.trace_model_lemmas.ContentsLemmas.{fit_prop}
-use Rattle.trace_code.proofs.trace_model_lemmas.CountingLemmas.{count-push, slice_get-last}
+use Rattle.trace_code.specs.trace_model.Row.{flies_after, is_in_flight, row_before}
+use Rattle.trace_code.proofs.trace_model_lemmas.CountingLemmas.{count-push}
 use Rattle.trace_code.proofs.trace_model_lemmas.MaskLemmas.{cond-has}
 use Rattle.trace_code.proofs.trace_model_lemmas.RowLaws.{counted}
 use Rattle.net_design.specs.declared.design.Design.{Design}
@@ -150,15 +149,6 @@ done-push rows row ends e = λ i c. one c i
   where
     one : (c : ℕ) → done rows c + bit_at ends c ≡ done (rows ++ row ∷ []) c
     one c = ap (λ k. done rows c + bit_at k c) e ∙ ap (λ k. done rows c + k) (sym (cond-has row.ends c)) ∙ sym (count-push (row_does End c) rows row)
-
-over_prop : (m : Map) (row : Row) → IsProp (IsOver m.channels row)
-over_prop m row = hlevel (props, fit_prop)
-
--- the last of ruled rows is one over the channels
-pub over-last : (m : Map) (rule : List Row → Row → Type 0) (rows : List Row) (row : Row) → AreRuled m rule (rows ++ row ∷ [])
-    → IsOver m.channels row
-over-last m rule rows row ruled = ∥∥₁_elim ruled.played (over_prop m row)
-    (λ (x : (d : Design) × IsPlayed d m rule (rows ++ row ∷ [])). (x.1.marked (length rows) row (slice_get-last rows row)).0)
 
 -- what is kept, on the map's channels
 pub kept-here : (first feeder : Feeder) (rows : List Row) → StandsBehind first feeder rows

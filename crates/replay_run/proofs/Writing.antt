@@ -1,37 +1,16 @@
 -- What is written, over plain values.
-use Rattle.std.proofs.Common.{◌≡◌, ℕ, suc, ◌+◌, ◌-◌, ◌*◌, ◌≤◌, ◌&&◌, ◌==◌, Bool, true, false, cond, List, [], ◌∷◌, ◌++◌}
+use Rattle.std.proofs.Common.{◌≡◌, ℕ, ◌+◌, ◌-◌, ◌*◌, ◌≤◌, Bool, true, false, cond, List, [], ◌∷◌, ◌++◌}
 use Rattle.std.proofs.Common.{length, drop, map, take, refl, ap, sym, ◌∙◌, arith, append_assoc}
 use Rattle.std.specs.List.{filter, flat_map}
-use Rattle.std.proofs.lemmas.List.{length-map, take_at}
+use Rattle.std.proofs.lemmas.List.{take_at}
 use Rattle.trace_code.specs.trace_model.declared.channel.Channel.{Channel}
 use Rattle.trace_code.specs.trace_model.declared.row.Row.{Row}
-use Rattle.trace_code.specs.trace_model.Length.{contents_len, head_len, longest_packet, packet_len}
 use Rattle.trace_code.specs.trace_model.Recording.{has_event, packet_of, packets_of, trace_of}
 use Rattle.trace_code.specs.Encoding.{encode, end_mark, header_bytes, packet_bytes, row_bytes}
-use Rattle.trace_code.proofs.RowBytes.{contents_len-widths, contents-least}
+pub use Rattle.trace_code.proofs.RowBytes.{packets-few}
 use Rattle.replay_run.specs.Output.{IsWritten}
 use Rattle.replay_run.specs.declared.output.Output.{Output}
 use Rattle.replay_run.specs.declared.output.TheConstants.{END_LEN}
-
--- ---- a packet is no longer than the longest
-pub packet-most : (channels : List Channel) (starts ends : ℕ) → packet_len channels starts ends ≤ longest_packet channels
-packet-most channels starts ends = one (starts == 0 && ends == 0)
-  where
-    one : (b : Bool) → cond b 0 (head_len (length channels) + contents_len starts channels) ≤ longest_packet channels
-    one true = omega arith
-    one false = let a = contents_len-widths starts channels in let b = contents-least starts channels in omega arith
-
--- ---- no more packets than rows
-pub packets-few : (channels : List Channel) (rows : List Row) → length (packets_of channels rows) ≤ length rows
-packets-few channels rows = omega (arith, length-map (filter has_event rows) (packet_of channels), few rows)
-  where
-    few : (xs : List Row) → length (filter has_event xs) ≤ length xs
-    few [] = omega arith
-    few (x ∷ xs) = one (has_event x) (few xs)
-      where
-        one : (b : Bool) → length (filter has_event xs) ≤ length xs → length (cond b (x ∷ filter has_event xs) (filter has_event xs)) ≤ suc (length xs)
-        one true l = omega (arith, l)
-        one false l = omega (arith, l)
 
 -- ---- the buffer
 pub whole : (n : ℕ) (xs ys : List ℕ) → length xs ≡ n → take n (xs ++ drop (length xs) ys) ≡ xs

@@ -1,7 +1,7 @@
 -- The bytes of a row's packet: what is picked of its contents, and how long they are.
 use Rattle.std.proofs.Common.{◌≡◌, ℕ, ◌+◌, ◌-◌, ◌^◌, ◌<◌, ◌≤◌, Bool, true, false, cond, eqb, not, ◌&&◌, List, [], ◌∷◌, ◌++◌, length, get_or}
-use Rattle.std.proofs.Common.{take, drop, sum_by, refl, sym, ap, ⊎_elim, ◌∙◌, append_assoc, arith}
-use Rattle.std.specs.List.{flat_map, enumerate_from}
+use Rattle.std.proofs.Common.{suc, ◌==◌, map, take, drop, sum_by, refl, sym, ap, ⊎_elim, ◌∙◌, append_assoc, arith}
+use Rattle.std.specs.List.{filter, flat_map, enumerate_from}
 use Rattle.std.specs.Int.{bit_at}
 use Rattle.std.proofs.Math.Seq.{drop-drop}
 use Rattle.std.proofs.lemmas.Bool.{cases_Bool, cases_lt, false≢true, eq-eqb, eqb-true}
@@ -14,9 +14,9 @@ use Rattle.vec_clock.specs.trace_model.declared.channel.Channel.{Channel}
 use Rattle.vec_clock.specs.trace_model.Channel.{byte_count, content_bytes}
 use Rattle.vec_clock.specs.trace_model.declared.packet.Packet.{Packet}
 use Rattle.vec_clock.specs.trace_model.declared.row.Row.{Row}
-use Rattle.vec_clock.specs.trace_model.Length.{mask_len, head_len, contents_len, packet_len}
+use Rattle.vec_clock.specs.trace_model.Length.{mask_len, head_len, contents_len, longest_packet, packet_len}
 use Rattle.vec_clock.specs.trace_model.Packet.{Fit, widths_under}
-use Rattle.vec_clock.specs.trace_model.Recording.{has_event, packet_of, contents_under}
+use Rattle.vec_clock.specs.trace_model.Recording.{has_event, packet_of, packets_of, contents_under}
 use Rattle.vec_clock.specs.trace_model.Row.{all_widths, content_at}
 use Rattle.vec_clock.proofs.trace_model_lemmas.CountingLemmas.{take-more_read}
 use Rattle.vec_clock.proofs.trace_model_lemmas.ContentsLemmas.{fit-length}
@@ -66,6 +66,24 @@ widths-least mask n (c ∷ cs) =
 -- it is at most that of all channels
 pub contents-least : (mask : ℕ) (cs : List Channel) → sum_by byte_count (widths_under mask cs) ≤ sum_by content_bytes cs
 contents-least mask cs = widths-least mask 0 cs
+
+-- a packet is no longer than one in which all channels start
+pub packet-most : (channels : List Channel) (starts ends : ℕ) → packet_len channels starts ends ≤ longest_packet channels
+packet-most channels starts ends = one (starts == 0 && ends == 0)
+  where
+    one : (b : Bool) → cond b 0 (head_len (length channels) + contents_len starts channels) ≤ longest_packet channels
+    one true = omega arith
+    one false = let a = contents_len-widths starts channels in let b = contents-least starts channels in omega arith
+
+-- there are no more packets than rows
+pub packets-few : (channels : List Channel) (rows : List Row) → length (packets_of channels rows) ≤ length rows
+packets-few channels [] = omega arith
+packets-few channels (r ∷ rows) = one (has_event r) (packets-few channels rows)
+  where
+    one : (b : Bool) → length (packets_of channels rows) ≤ length rows
+        → length (map (packet_of channels) (cond b (r ∷ filter has_event rows) (filter has_event rows))) ≤ suc (length rows)
+    one true l = omega (arith, l)
+    one false l = omega (arith, l)
 
 -- ---- what is picked
 abbrev pub Among : ℕ → ℕ → Type 0

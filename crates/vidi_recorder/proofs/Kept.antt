@@ -1,7 +1,6 @@
 -- What the trace of a run holds, and what a plan that drains everything makes of a run.
 use Rattle.std.proofs.Common.{◌≡◌, ℕ, suc, ◌+◌, ◌<◌, ◌≤◌, Bool, true, false, not, cond, List, [], ◌∷◌, ◌++◌}
-use Rattle.std.proofs.Common.{Some, None, length, take, drop, map, slice_get, count_by, refl, ap, sym, subst, ◌∙◌, arith, ⊎_elim, add-one}
-use Rattle.std.specs.List.{filter}
+use Rattle.std.proofs.Common.{Some, None, length, take, drop, slice_get, count_by, refl, ap, sym, subst, ◌∙◌, arith, ⊎_elim, add-one}
 use Rattle.std.proofs.lemmas.Bool.{cases_Bool, and_from}
 use Rattle.std.proofs.lemmas.List.{take-append-drop, length-take-le, length-map, length_push}
 use Rattle.std.proofs.lemmas.Option.{slice_get_within, same_Some}
@@ -11,8 +10,9 @@ use Rattle.trace_code.specs.trace_model.declared.channel.Channel.{Channel}
 use Rattle.trace_code.specs.trace_model.declared.event.Kind.TheVariants.{End}
 use Rattle.trace_code.specs.trace_model.declared.row.Row.{Row}
 use Rattle.trace_code.specs.trace_model.Channel.{content_bytes}
-use Rattle.trace_code.specs.trace_model.Recording.{has_event, packet_of, packets_of, row_does}
+use Rattle.trace_code.specs.trace_model.Recording.{row_does}
 use Rattle.trace_code.specs.trace_model.Row.{completes, is_in_flight}
+use Rattle.trace_code.proofs.RowBytes.{packets-few}
 use Rattle.trace_code.proofs.trace_model_lemmas.CountingLemmas.{count-cons, slice_get-last}
 use Rattle.trace_code.proofs.trace_model_lemmas.RowLaws.{recorded-once, same-counts}
 use Rattle.env_script.specs.run_model.Played.{all_up}
@@ -48,15 +48,6 @@ gates-stay channels plan = record {
 }
 
 -- ---- counts
-pub packets-few : (channels : List Channel) (rows : List Row) → length (packets_of channels rows) ≤ length rows
-packets-few channels [] = omega arith
-packets-few channels (r ∷ rows) = one (has_event r) (packets-few channels rows)
-  where
-    one : (b : Bool) → length (packets_of channels rows) ≤ length rows
-        → length (map (packet_of channels) (cond b (r ∷ filter has_event rows) (filter has_event rows))) ≤ suc (length rows)
-    one true l = omega (arith, l)
-    one false l = omega (arith, l)
-
 same-count : (f g : Row → Bool) (rows : List Row) → ((t : ℕ) (row : Row) → slice_get rows t ≡ Some row → f row ≡ g row)
     → count_by f rows ≡ count_by g rows
 same-count f g [] h = refl

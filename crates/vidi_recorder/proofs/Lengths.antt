@@ -1,27 +1,19 @@
 -- Lengths of packets.
-use Rattle.std.proofs.Common.{◌≡◌, ℕ, ◌+◌, ◌≤◌, ◌&&◌, ◌==◌, Bool, true, false, cond, List, [], ◌∷◌, Option, None, Some}
+use Rattle.std.proofs.Common.{◌≡◌, ℕ, ◌+◌, ◌≤◌, List, [], ◌∷◌, Option, None, Some}
 use Rattle.std.proofs.Common.{length, map, sum_by, ap, sym, ◌∙◌, arith}
 use Rattle.std.proofs.lemmas.List.{length-map}
 use Rattle.std.proofs.lemmas.List.Sums.{sum_by-cons}
 use Rattle.trace_code.specs.trace_model.declared.channel.Channel.{Channel}
 use Rattle.trace_code.specs.trace_model.Channel.{content_bytes, IsTable}
 use Rattle.trace_code.specs.trace_model.declared.row.Row.{Row}
-use Rattle.trace_code.specs.trace_model.Length.{contents_len, head_len, longest_packet, packet_len}
-use Rattle.trace_code.proofs.RowBytes.{contents_len-widths, contents-least}
+use Rattle.trace_code.specs.trace_model.Length.{head_len, packet_len}
+use Rattle.trace_code.proofs.RowBytes.{packet-most}
 use Rattle.room_ledger.specs.Gates.{row_len}
 use Rattle.room_ledger.specs.Ledger.{Ledger, claimed, Emitted}
 use Rattle.room_ledger.specs.Reservation.{event_len, need, whole}
 use Rattle.room_ledger.proofs.Following.{same-len}
 
--- a packet is no longer than one in which all channels start
-pub packet-most : (channels : List Channel) (starts ends : ℕ) → packet_len channels starts ends ≤ longest_packet channels
-packet-most channels starts ends = one (starts == 0 && ends == 0)
-  where
-    one : (b : Bool) → cond b 0 (head_len (length channels) + contents_len starts channels) ≤ longest_packet channels
-    one true = omega arith
-    one false = let a = contents_len-widths starts channels in let b = contents-least starts channels in omega arith
-
--- which all of them reserve together
+-- a row's packet is no longer than what all channels reserve together
 pub row-least : (channels : List Channel) → IsTable channels → (row : Option Row)
     → row_len (map content_bytes channels) row ≤ need (map content_bytes channels)
 row-least channels table None = omega arith

@@ -15,7 +15,7 @@ use Rattle.trace_code.specs.Encoding.{channel_bytes, encode, end_mark, header_by
 use Rattle.room_ledger.proofs.Following.{same-len}
 use Rattle.vidi_recorder.specs.Standing.{body}
 use Rattle.vidi_recorder.proofs.Going.{bytes-len}
-use Rattle.vidi_recorder.proofs.Lengths.{packet-most}
+use Rattle.trace_code.proofs.RowBytes.{packet-most}
 use Rattle.vidi_recorder.proofs.Passed.{longest}
 use Rattle.vidi_recorder.proofs.Runs.{encode-is, mark_of}
 

@@ -1,5 +1,5 @@
 -- The run one row longer, and the shell behind it.
-use Rattle.std.proofs.Common.{◌≡◌, ◌&&◌, true, false, not, List, [], ◌∷◌, ◌++◌, Option}
+use Rattle.std.proofs.Common.{◌≡◌, ◌&&◌, true, false, List, [], ◌∷◌, ◌++◌, Option}
 use Rattle.std.proofs.Common.{Some, None, ℕ, ◌<◌, ◌^◌, length, take, refl, ap, sym, subst, ◌∙◌, arith}
 use Rattle.std.proofs.Math.Bool.{and-false}
 use Rattle.std.proofs.Math.Logic.{∥∥₁_elim}
@@ -10,7 +10,7 @@ use Rattle.trace_code.specs.trace_model.declared.channel.Channel.{Channel}
 use Rattle.trace_code.specs.trace_model.declared.row.Offers.{Offers}
 use Rattle.trace_code.specs.trace_model.declared.row.Row.{Row}
 use Rattle.trace_code.specs.trace_model.Row.{all_widths, flies_after, row_before, sink_valid, AreOffers, IsMarked, IsOver}
-use Rattle.trace_code.proofs.trace_model_lemmas.ContentsLemmas.{fit-length, fit_prop}
+use Rattle.trace_code.proofs.trace_model_lemmas.ContentsLemmas.{fit-length}
 use Rattle.trace_code.proofs.trace_model_lemmas.CountingLemmas.{slice_get-last}
 use Rattle.net_design.specs.declared.design.Design.{Design}
 use Rattle.net_design.specs.declared.values.Values.{Values}
@@ -30,7 +30,7 @@ use Rattle.room_ledger.proofs.GateLaws.{one-set}
 use Rattle.run_stage.specs.declared.given.Gated.{Gated}
 use Rattle.run_stage.specs.Given.{FitsGates, IsGatedRow}
 use Rattle.run_stage.specs.Playing.{AreRuled, Plays}
-use Rattle.run_stage.proofs.Turning.{before-append}
+use Rattle.run_stage.proofs.Turning.{before-append, over-last}
 use Rattle.vidi_recorder.specs.Course.{Course, rule_of, rule_under, GatesUnder, IsRunOf, sizes_of}
 use Rattle.vidi_recorder.specs.Standing.{Reached}
 use Rattle.vidi_recorder.proofs.Kept.{gates-stay}
@@ -65,9 +65,6 @@ pub record IsNext (channels : List Channel) (offer : ℕ → Offer) (room : Ledg
   pub ends : EndsAreCompletions row
   pub follows : MayFollow room false (row_before rows (length rows)) row
 
-over_prop : (channels : List Channel) (row : Row) → IsProp (IsOver channels row)
-over_prop channels row = hlevel (props, fit_prop)
-
 module _ (m : Map) (offer : List Row → ℕ → Offer) (plan : Plan) (rows : List Row) (row : Row) (room : Ledger)
     (lasts : AreLasting m.channels offer) (stands : StandsAfter (sizes_of m.channels) plan rows false room) where
   abbrev Played : Type 0
@@ -95,7 +92,7 @@ module _ (m : Map) (offer : List Row → ℕ → Offer) (plan : Plan) (rows : Li
 
   pub next : AreRuled m (rule_under m.channels offer plan) (rows ++ row ∷ []) → IsNext m.channels (offer rows) room rows row
   next are = record {
-    over = ∥∥₁_elim are.played (over_prop m.channels row) (λ (x : Played). (one x).over);
+    over = over-last m (rule_under m.channels offer plan) rows row are;
     carries = ∥∥₁_elim are.played (hlevel props) (λ (x : Played). (one x).carries);
     ends = ∥∥₁_elim are.played (hlevel props) (λ (x : Played). (one x).ends);
     follows = ∥∥₁_elim are.played (hlevel props) (λ (x : Played). (one x).follows);

@@ -15,7 +15,7 @@ use Rattle.env_script.specs.Offered.{AllFit, AreLasting}
 use Rattle.vidi_io.specs.Sink.{AppendsSome}
 use Rattle.vidi_recorder.specs.Standing.{Cut, Going}
 use Rattle.vidi_recorder.proofs.Going.{Cycle, cut-drain, going-on}
-use Rattle.vidi_recorder.proofs.Kept.{packets-few}
+use Rattle.trace_code.proofs.RowBytes.{packets-few}
 
 -- ---- what is offered
 pub lasting : (channels given : List Channel) (offer : List Row → ℕ → Offer) → given ≡ channels

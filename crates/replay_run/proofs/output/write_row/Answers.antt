@@ -1,5 +1,5 @@
 use Rattle.std.proofs.Common.{arith}
-use Rattle.replay_run.proofs.Writing.{packet-most}
+use Rattle.trace_code.proofs.RowBytes.{packet-most}
 use Rattle.replay_run.proofs.output.write_row.Goals as goal
 
 pub returns-clause-most : goal.returns-clause-most

@@ -8,8 +8,9 @@ use Rattle.run_stage.specs.run_model.Replay.{done}
 use Rattle.replay_run.specs.Behind.{AreBehind}
 use Rattle.replay_run.specs.Output.{HasRoomFor, IsWritten}
 use Rattle.replay_run.specs.Standing.{IsNextRow}
-use Rattle.replay_run.proofs.Playing.{done-push, kept-here, over-last, room-left}
-use Rattle.replay_run.proofs.Writing.{packets-few}
+use Rattle.replay_run.proofs.Playing.{done-push, kept-here, room-left}
+use Rattle.run_stage.proofs.Turning.{over-last}
+use Rattle.trace_code.proofs.RowBytes.{packets-few}
 use Rattle.replay_run.proofs.feeder.FeederPlayerFeed.keep.Goals as goal
 
 pub push-requires-clause-over : goal.push-requires-clause-over
