@@ -1,8 +1,7 @@
 use Rattle.std.proofs.Math.Logic.{∥∥₁_elim}
 use Rattle.std.proofs.Props.{props}
-use Rattle.bench_run.specs.chan_monitor.Shell.{IsRunning}
 use Rattle.run_checks.proofs.play.cycle.Goals as goal
 
 pub returns-clause-gates : goal.returns-clause-gates
 returns-clause-gates g c = ∥∥₁_elim (g.met.S.Shell.running c.args.shell.now) (hlevel props)
-    (λ (r : IsRunning (g.S.Shell.runs c.args.shell.now)). (c.drive.ensures.row r.0 r.1 r.2 r.3).gates_are)
+    (λ r. (c.drive.ensures.row r.0 r.1 r.2 r.3).gates_are)
