@@ -12,11 +12,15 @@ const MOST: usize = 128;
 
 /// Makes the clock of channel `c` the numbers from `first` on.
 fn count_from(needs: &mut Needs, channels: usize, c: usize, first: u32)
+    requires few { channels ≤ 128 }
     requires channel { c < channels }
     requires needs { length needs.old ≡ channels * channels }
     ensures { length needs.new ≡ length needs.old }
 {
-    needs.write(c, |d| { first.wrapping_add(d as u32) });
+    let number = |d: usize| -> u32
+        requires { d < 128 }
+    { first.wrapping_add(d as u32) };
+    needs.write(c, number);
 }
 
 /// The clocks of so many channels, which all have that of channel 5: the numbers from 700 on.
@@ -47,8 +51,10 @@ fn count_apart(needs: &mut Needs, channels: usize)
 /// Whether a clock of 128 numbers has those from `first` on.
 fn counts_from(clock: &[u32], first: u32) -> bool {
     let mut right = clock.len() == MOST;
-    for (d, number) in clock.iter().enumerate() {
-        right &= *number == first.wrapping_add(d as u32);
+    let mut next = first;
+    for number in clock {
+        right &= *number == next;
+        next = next.wrapping_add(1);
     }
     right
 }
