@@ -1,6 +1,9 @@
 pub mod Told
 pub mod OneEnding
 pub mod OneTraces
+pub mod OneDump
+pub mod OneCompare
+pub mod OneCommand
 pub mod OneRefusal
 pub mod OneCheck
 pub mod OneSalvaged
