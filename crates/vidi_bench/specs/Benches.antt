@@ -1,40 +1,24 @@
 -- What the texts of a design, a map and a script say together, or the first reason for which they are refused.
-use Rattle.std.specs.Prelude.{◌≡◌, ℕ, ◌≤◌, List, Option, None, Some, Ok, Err, length}
+use Rattle.std.specs.Prelude.{ℕ, ◌≤◌, List, Option, Ok, Err, length}
 use Rattle.report_text.specs.vidi_io.Shelf.{Files}
 use Rattle.env_script.specs.chan_map.declared.pins.Map.{Map}
 use Rattle.env_script.specs.declared.error.ScriptError.{ScriptError}
-use Rattle.env_script.specs.declared.error.ScriptError.TheVariants as errors
 use Rattle.env_script.specs.Reasons.{read_lines}
 use Rattle.env_script.specs.Fits.{FitsChannels}
 use Rattle.env_script.specs.Reads.{ReadsScript}
 use Rattle.report_text.specs.declared.reason.Word.TheVariants as words
-use Rattle.report_text.specs.declared.reason.Reason.{Reason}
-use Rattle.report_text.specs.declared.reason.Reason.TheVariants as reasons
 use Rattle.vidi_bench.specs.declared.bench.Bench.{Bench}
 use Rattle.vidi_bench.specs.declared.bench.Texts.{Texts}
-use Rattle.vidi_bench.specs.Steps.{Ending, IsRefusal}
+use Rattle.vidi_bench.specs.Reasons.{script_reason}
+use Rattle.vidi_bench.specs.Steps.{Ending, IsRefusalFor}
 use Rattle.vidi_bench.specs.Design.{text_limit}
 use Rattle.vidi_bench.specs.Devices.{IsDevice, IsRunnable, Wiring}
 use Rattle.vidi_bench.specs.Reading.{Reading}
 
--- ---- the reasons S1 to S3 of a script
-
--- want of memory is no reason
-abbrev pub script_reason : ScriptError → Option Reason
-script_reason (errors.Line line) = Some (reasons.ScriptLine line)
-script_reason (errors.Channel line) = Some (reasons.ScriptChannel line)
-script_reason (errors.Number line) = Some (reasons.ScriptNumber line)
-script_reason errors.Memory = None
-
--- the answer that refuses the script for this finding
-abbrev pub IsScriptRefusal : ScriptError → Ending
-IsScriptRefusal error status said =
-    (reason : Reason) × (script_reason error ≡ Some reason) × IsRefusal words.Script reason status said
-
 -- S1 to S3
 abbrev pub IsNoScript : List ℕ → Map → Ending
 IsNoScript bytes map status said =
-    (error : ScriptError) × ReadsScript map.channels (read_lines bytes) (Err error) × IsScriptRefusal error status said
+    (error : ScriptError) × ReadsScript map.channels (read_lines bytes) (Err error) × IsRefusalFor words.Script (script_reason error) status said
 
 -- ---- the files, in the order of the words, and what comes of their texts
 abbrev pub ReadTexts : List ℕ → List ℕ → List ℕ → Option Files → (List ℕ → Type 0) → (List ℕ → List ℕ → List ℕ → Ending) → Ending

@@ -8,16 +8,15 @@ use Rattle.vlog_parse.specs.Depth.{IsDeep, IsShallow}
 use Rattle.vlog_parse.specs.Parsing.{IsFileOf, IsLinedFileOf}
 use Rattle.vlog_parse.specs.Units.{IsItemLine}
 use Rattle.vlog_design.specs.vlog_elab.declared.error.ElabError.{ElabError}
-use Rattle.vlog_design.specs.vlog_elab.declared.error.ElabError.TheVariants as errors
 use Rattle.net_design.specs.declared.design.Design.{Design}
 use Rattle.net_design.specs.declared.design.Driver.{Driver}
 use Rattle.vlog_design.specs.net_order.Order.{IsOrder, IsLoop}
 use Rattle.vlog_design.specs.Design.{IsDesignOf}
 use Rattle.vlog_design.specs.Reasons.{Clear, Refused}
 use Rattle.report_text.specs.declared.reason.Word.TheVariants as words
-use Rattle.report_text.specs.declared.reason.Reason.{Reason}
 use Rattle.report_text.specs.declared.reason.Reason.TheVariants as reasons
-use Rattle.vidi_bench.specs.Steps.{Ending, IsRefusal, Step}
+use Rattle.vidi_bench.specs.Reasons.{elab_reason}
+use Rattle.vidi_bench.specs.Steps.{Ending, IsRefusal, IsRefusalFor, Step}
 
 -- the longest design text, in bytes
 abbrev pub text_limit : ℕ
@@ -52,27 +51,9 @@ abbrev pub Spells : List ℕ → FileOf ℕ → Type 0
 Spells text f = (tokens : List Token) × HasTokens text tokens × IsFile tokens f
 
 -- ---- the reasons E3 to E9 and E11 to E13
--- want of memory is no reason
-abbrev pub reason_of : ElabError → Option Reason
-reason_of (errors.Twice name) = Some (reasons.Twice name)
-reason_of (errors.Unknown name) = Some (reasons.Unknown name)
-reason_of (errors.Kind line) = Some (reasons.Kind line)
-reason_of (errors.Nested name) = Some (reasons.Nested name)
-reason_of (errors.TooBig what) = Some (reasons.TooBig what)
-reason_of (errors.Const line) = Some (reasons.Const line)
-reason_of (errors.Width line got) = Some (reasons.Width line got)
-reason_of (errors.Clock line) = Some (reasons.Clock line)
-reason_of (errors.Latch name line) = Some (reasons.Latch name line)
-reason_of (errors.Drive name bit drivers) = Some (reasons.Drive name bit drivers)
-reason_of errors.Memory = None
-
--- the answer that refuses for this reason
-abbrev pub IsRefusedAs : ElabError → Ending
-IsRefusedAs error status said = (reason : Reason) × (reason_of error ≡ Some reason) × IsRefusal words.Design reason status said
-
 -- this is the first reason that holds of the file with this top
 abbrev pub IsRefusedFile : List ℕ → FileOf ℕ → Ending
-IsRefusedFile top f status said = (error : ElabError) × Refused f top error × IsRefusedAs error status said
+IsRefusedFile top f status said = (error : ElabError) × Refused f top error × IsRefusalFor words.Design (elab_reason error) status said
 
 -- none of these reasons holds, and this is the design of the file
 abbrev pub IsAccepted : List ℕ → FileOf ℕ → Design → Type 0

@@ -1,45 +1,31 @@
 -- What the texts of a design and a map say together, or the first reason for which they are refused.
-use Rattle.std.specs.Prelude.{◌≡◌, ℕ, List, Option, None, Some, Ok, Err}
+use Rattle.std.specs.Prelude.{ℕ, List, Ok, Err}
 use Rattle.vlog_tree.specs.Tree.{FileOf}
 use Rattle.env_script.specs.trace_model.Channel.{IsTable}
 use Rattle.net_design.specs.declared.design.Design.{Design}
 use Rattle.net_design.specs.Lawful.{IsLawful}
 use Rattle.vlog_design.specs.net_order.Order.{IsOrder}
 use Rattle.env_script.specs.chan_map.declared.error.MapError.{MapError}
-use Rattle.env_script.specs.chan_map.declared.error.MapError.TheVariants as errors
 use Rattle.env_script.specs.chan_map.declared.text.MapText.{MapText}
 use Rattle.env_script.specs.chan_map.declared.pins.Map.{Map}
 use Rattle.env_script.specs.chan_map.Text.{ReadsMap}
 use Rattle.env_script.specs.chan_map.Bound.{BindsMap}
 use Rattle.env_script.specs.run_model.MapOf.{IsMapOf}
 use Rattle.report_text.specs.declared.reason.Word.TheVariants as words
-use Rattle.report_text.specs.declared.reason.Reason.{Reason}
-use Rattle.report_text.specs.declared.reason.Reason.TheVariants as reasons
 use Rattle.vidi_bench.specs.declared.device.Device.{Device}
-use Rattle.vidi_bench.specs.Steps.{Ending, IsRefusal, Step}
+use Rattle.vidi_bench.specs.Reasons.{map_reason}
+use Rattle.vidi_bench.specs.Steps.{Ending, IsRefusalFor, Step}
 use Rattle.vidi_bench.specs.Design.{Building, IsAccepted, Spelling, Spells}
 
 -- ---- the reasons M1 to M4 of a map
 
--- want of memory is no reason
-abbrev pub map_reason : MapError → Option Reason
-map_reason (errors.Line line) = Some (reasons.MapLine line)
-map_reason (errors.Port line) = Some (reasons.MapPort line)
-map_reason (errors.Cover port times) = Some (reasons.Cover port times)
-map_reason (errors.Limit what got) = Some (reasons.Limit what got)
-map_reason errors.Memory = None
-
--- the answer that refuses the map for this finding
-abbrev pub IsMapRefusal : MapError → Ending
-IsMapRefusal error status said = (reason : Reason) × (map_reason error ≡ Some reason) × IsRefusal words.Map reason status said
-
 -- M1
 abbrev pub IsNoMap : List ℕ → Ending
-IsNoMap bytes status said = (error : MapError) × ReadsMap bytes (Err error) × IsMapRefusal error status said
+IsNoMap bytes status said = (error : MapError) × ReadsMap bytes (Err error) × IsRefusalFor words.Map (map_reason error) status said
 
 -- M2 to M4
 abbrev pub IsUnbound : MapText → Design → Ending
-IsUnbound text d status said = (error : MapError) × BindsMap text d (Err error) × IsMapRefusal error status said
+IsUnbound text d status said = (error : MapError) × BindsMap text d (Err error) × IsRefusalFor words.Map (map_reason error) status said
 
 -- ---- the steps of the two texts
 

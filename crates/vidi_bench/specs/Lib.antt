@@ -5,6 +5,7 @@ pub mod Devices
 pub mod Ended
 pub mod Exit
 pub mod Reading
+pub mod Reasons
 pub mod Steps
 pub mod Unfetched
 pub mod Usage

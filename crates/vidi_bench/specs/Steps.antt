@@ -1,5 +1,5 @@
 -- How a command goes on: each step ends it with an answer, or gives something to go on with.
-use Rattle.std.specs.Prelude.{◌≡◌, ℕ, ◌⊎◌, List}
+use Rattle.std.specs.Prelude.{◌≡◌, ℕ, ◌⊎◌, List, Option, Some}
 use Rattle.report_text.specs.declared.reason.Word.{Word}
 use Rattle.report_text.specs.declared.reason.Reason.{Reason}
 use Rattle.vidi_bench.specs.declared.status.Status.{Status}
@@ -16,6 +16,10 @@ IsSaid s x status text = (status ≡ s) × (text ≡ x)
 -- the file of this word is refused for this reason
 abbrev pub IsRefusal : Word → Reason → Status → List ℕ → Type 0
 IsRefusal word reason = IsSaid (Refused word reason) (reason_line word reason)
+
+-- the file of this word is refused for the reason that was found
+abbrev pub IsRefusalFor : Word → Option Reason → Ending
+IsRefusalFor word found status text = (reason : Reason) × (found ≡ Some reason) × IsRefusal word reason status text
 
 abbrev pub Step : {X : Type 0} → Ending → (X → Type 0) → (X → Ending) → Ending
 Step {X} Ends Gives Next status text = Ends status text ⊎ ((x : X) × Gives x × Next x status text)

@@ -5,23 +5,22 @@ ghost use Rattle.env_script.specs.Reasons.{read_lines};
 ghost use Rattle.env_script.specs.Reads.{ReadsScript};
 ghost use Rattle.report_text.specs.vidi_io.Cause.{Rose};
 ghost use Rattle.report_text.specs.vidi_io.Shelf.{Later};
-ghost use Rattle.vidi_bench.specs.AnswerText.{text_of};
-ghost use Rattle.vidi_bench.specs.Benches as spec;
-ghost use Rattle.vidi_bench.specs.Benches.{AreWithin, IsBench, IsNoScript, IsPlayable, IsScriptRefusal, ReadTexts, RefusedTexts};
+ghost use Rattle.vidi_bench.specs.Benches.{AreWithin, IsBench, IsNoScript, IsPlayable, ReadTexts, RefusedTexts};
 ghost use Rattle.vidi_bench.specs.Design.{text_limit};
 ghost use Rattle.vidi_bench.specs.Ended.{EndsWith};
 ghost use Rattle.vidi_bench.specs.Reading.{IsRead};
 ghost use Rattle.vidi_bench.specs.Steps.{Never};
 
-use crate::answer::{Answer, Ended, refused};
+use crate::answer::Ended;
 use crate::device::{Device, device_of};
 use crate::read::{TEXT_LIMIT, read_file};
-use crate::status::{Reason, Word};
+use crate::refusal::refused_for;
+use crate::status::Word;
 use env_script::chan_map::Map;
-use env_script::{Script, ScriptError, read_script};
+use env_script::{Script, read_script};
 use report_text::vidi_io::Shelf;
 use std::alloc::Global;
-use vlog_parse::vidi_bits::{Bytes, Memory};
+use vlog_parse::vidi_bits::Bytes;
 
 /// The texts of a design, a map and a script.
 #[derive(Drop)]
@@ -86,27 +85,6 @@ fn script_of(alloc: Global, script: &[u8], map: &Map) -> Result<Script, Ended>
 {
     match read_script(alloc, script, map) {
         Ok(steps) => Ok(steps),
-        Err(error) => Err(Ended::Refused(script_refused(alloc, error)?)),
-    }
-}
-
-/// The answer that refuses the script.
-fn script_refused(alloc: Global, error: ScriptError) -> Result<Answer, Memory>
-    ensures { IfOk result (λ a. IsScriptRefusal error a.status (text_of a.text)) }
-{
-    match script_reason(error) {
-        Some(reason) => refused(alloc, Word::Script, reason),
-        None => Err(Memory),
-    }
-}
-
-fn script_reason(error: ScriptError) -> Option<Reason>
-    ensures { result ≡ spec.script_reason error }
-{
-    match error {
-        ScriptError::Line { line } => Some(Reason::ScriptLine { line }),
-        ScriptError::Channel { line } => Some(Reason::ScriptChannel { line }),
-        ScriptError::Number { line } => Some(Reason::ScriptNumber { line }),
-        ScriptError::Memory => None,
+        Err(error) => Err(Ended::Refused(refused_for(alloc, Word::Script, error)?)),
     }
 }

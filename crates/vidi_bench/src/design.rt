@@ -5,18 +5,17 @@ ghost use Rattle.vlog_tree.specs.Plain.{plain};
 ghost use Rattle.vlog_design.specs.Design.{file_counts};
 ghost use Rattle.net_design.specs.Lawful.{IsLawful, counts};
 ghost use Rattle.vlog_design.specs.net_order.Order.{IsOrder};
-ghost use Rattle.vidi_bench.specs.AnswerText.{text_of};
 ghost use Rattle.vidi_bench.specs.Design as spec;
-ghost use Rattle.vidi_bench.specs.Design.{text_limit, IsAccepted, IsFile, IsLooped, IsNoText, IsNoTree, IsRefusedAs, IsRefusedFile, Spells};
+ghost use Rattle.vidi_bench.specs.Design.{text_limit, IsAccepted, IsFile, IsLooped, IsNoText, IsNoTree, IsRefusedFile, Spells};
 ghost use Rattle.vidi_bench.specs.Ended.{EndsWith};
 
-use crate::answer::{Answer, Ended, refused};
+use crate::answer::{Ended, refused};
+use crate::refusal::refused_for;
 use crate::status::{Reason, Word};
 use net_design::Design;
 use std::alloc::Global;
 use vlog_design::elaborate;
 use vlog_design::net_order::{Order, OrderError, order};
-use vlog_design::vlog_elab::ElabError;
 use vlog_parse::vidi_bits::{Items, Memory};
 use vlog_parse::vlog_lex::{LexError, Tokens, lex};
 use vlog_parse::{ParseError, parse};
@@ -68,35 +67,7 @@ pub fn design_of(alloc: Global, file: &File, top: &[u8]) -> Result<Design, Ended
 {
     match elaborate(alloc, file, top) {
         Ok(design) => Ok(design),
-        Err(error) => Err(Ended::Refused(refused_as(alloc, error)?)),
-    }
-}
-
-fn refused_as(alloc: Global, error: ElabError) -> Result<Answer, Memory>
-    ensures { IfOk result (λ a. IsRefusedAs error a.status (text_of a.text)) }
-{
-    match reason_of(error) {
-        Some(reason) => refused(alloc, Word::Design, reason),
-        None => Err(Memory),
-    }
-}
-
-/// The reason that the elaborator names, unless memory was wanting.
-fn reason_of(error: ElabError) -> Option<Reason>
-    ensures { result ≡ spec.reason_of error }
-{
-    match error {
-        ElabError::Twice { name } => Some(Reason::Twice { name }),
-        ElabError::Unknown { name } => Some(Reason::Unknown { name }),
-        ElabError::Kind { line } => Some(Reason::Kind { line }),
-        ElabError::Nested { name } => Some(Reason::Nested { name }),
-        ElabError::TooBig { what } => Some(Reason::TooBig { what }),
-        ElabError::Const { line } => Some(Reason::Const { line }),
-        ElabError::Width { line, got } => Some(Reason::Width { line, got }),
-        ElabError::Clock { line } => Some(Reason::Clock { line }),
-        ElabError::Latch { name, line } => Some(Reason::Latch { name, line }),
-        ElabError::Drive { name, bit, drivers } => Some(Reason::Drive { name, bit, drivers }),
-        ElabError::Memory => None,
+        Err(error) => Err(Ended::Refused(refused_for(alloc, Word::Design, error)?)),
     }
 }
 

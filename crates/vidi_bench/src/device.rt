@@ -5,22 +5,20 @@ ghost use Rattle.vlog_tree.specs.Plain.{plain};
 ghost use Rattle.net_design.specs.Lawful.{IsLawful};
 ghost use Rattle.env_script.specs.chan_map.Text.{ReadsMap};
 ghost use Rattle.env_script.specs.chan_map.Bound.{BindsMap};
-ghost use Rattle.vidi_bench.specs.AnswerText.{text_of};
 ghost use Rattle.vidi_bench.specs.Design.{text_limit, Building, IsAccepted};
-ghost use Rattle.vidi_bench.specs.Devices as spec;
-ghost use Rattle.vidi_bench.specs.Devices.{Binding, IsDevice, IsMapRefusal, IsNoMap, IsRunnable, IsUnbound, Wiring};
+ghost use Rattle.vidi_bench.specs.Devices.{Binding, IsDevice, IsNoMap, IsRunnable, IsUnbound, Wiring};
 ghost use Rattle.vidi_bench.specs.Ended.{EndsWith};
 ghost use Rattle.vidi_bench.specs.Steps.{Never};
 
-use crate::answer::{Answer, Ended, refused};
+use crate::answer::Ended;
 use crate::design::{design_of, file_of, order_of};
-use crate::status::{Reason, Word};
-use env_script::chan_map::{Map, MapError, MapText, bind_map, lawful_ports_have_widths, read_map};
+use crate::refusal::refused_for;
+use crate::status::Word;
+use env_script::chan_map::{Map, MapText, bind_map, lawful_ports_have_widths, read_map};
 use env_script::run_model::bound_is_map_of;
 use net_design::Design;
 use std::alloc::Global;
 use vlog_design::net_order::Order;
-use vlog_parse::vidi_bits::Memory;
 use vlog_tree::File;
 
 /// A design with an order of its drivers, and the map bound to it.
@@ -67,7 +65,7 @@ pub fn map_text_of(alloc: Global, map: &[u8]) -> Result<MapText, Ended>
 {
     match read_map(alloc, map) {
         Ok(text) => Ok(text),
-        Err(error) => Err(Ended::Refused(map_refused(alloc, error)?)),
+        Err(error) => Err(Ended::Refused(refused_for(alloc, Word::Map, error)?)),
     }
 }
 
@@ -80,28 +78,6 @@ fn map_of(alloc: Global, text: &MapText, design: &Design) -> Result<Map, Ended>
     lawful_ports_have_widths();
     match bind_map(alloc, text, design) {
         Ok(map) => Ok(map),
-        Err(error) => Err(Ended::Refused(map_refused(alloc, error)?)),
-    }
-}
-
-/// The answer that refuses the map.
-fn map_refused(alloc: Global, error: MapError) -> Result<Answer, Memory>
-    ensures { IfOk result (λ a. IsMapRefusal error a.status (text_of a.text)) }
-{
-    match map_reason(error) {
-        Some(reason) => refused(alloc, Word::Map, reason),
-        None => Err(Memory),
-    }
-}
-
-fn map_reason(error: MapError) -> Option<Reason>
-    ensures { result ≡ spec.map_reason error }
-{
-    match error {
-        MapError::Line { line } => Some(Reason::MapLine { line }),
-        MapError::Port { line } => Some(Reason::MapPort { line }),
-        MapError::Cover { port, times } => Some(Reason::Cover { port, times }),
-        MapError::Limit { what, got } => Some(Reason::Limit { what, got }),
-        MapError::Memory => None,
+        Err(error) => Err(Ended::Refused(refused_for(alloc, Word::Map, error)?)),
     }
 }

@@ -6,6 +6,7 @@ mod bench;
 mod design;
 mod device;
 mod read;
+mod refusal;
 mod status;
 
 pub use answer::{Answer, AnswerText, Ended, refused, usage, with_bytes};
@@ -14,6 +15,7 @@ pub use design::{design_of, file_of, order_of};
 pub use device::{Device, built, device_of, map_text_of};
 pub use env_script::run_model;
 pub use read::{TEXT_LIMIT, read_file};
+pub use refusal::{Refusal, refused_for};
 pub use report_text;
 pub use report_text::{trace_compare, vidi_io};
 pub use status::{Reason, Status, Word};

@@ -21,8 +21,9 @@ use Rattle.vidi_commands.specs.report_text.declared.reason.Reason.TheVariants.{W
 use Rattle.vidi_commands.specs.report_text.Reason.{reason_line}
 use Rattle.vidi_commands.specs.vidi_bench.declared.status.Status.{Status}
 use Rattle.vidi_commands.specs.vidi_bench.declared.status.Status.TheVariants.{Done, Refused}
+use Rattle.vidi_commands.specs.vidi_bench.Reasons.{elab_reason}
 use Rattle.vidi_commands.specs.vidi_bench.Steps.{Ending, IsRefusal, IsSaid, Step}
-use Rattle.vidi_commands.specs.vidi_bench.Design.{text_limit, reason_of, line_of, IsNoWord, IsTooDeep, IsNoFile, IsFile, IsNoTree, IsNoText, Spells}
+use Rattle.vidi_commands.specs.vidi_bench.Design.{text_limit, line_of, IsNoWord, IsTooDeep, IsNoFile, IsFile, IsNoTree, IsNoText, Spells}
 use Rattle.vidi_commands.specs.vidi_bench.Design.{IsRefusedFile, IsAccepted, IsLooped, Building, Spelling}
 use Rattle.vidi_commands.specs.run_commands.Checks.{Checked, Checks}
 use Rattle.vidi_laws.specs.OneAnswer.{NamesLoop}
@@ -71,11 +72,11 @@ none-file : TextLaws → (tokens : List Token) (a : Status) (x : List ℕ) (f : 
 none-file laws tokens a x f (inl (l, deep, s)) (shallow, is) = laws.depth.apart (all_marked tokens) l deep shallow
 none-file laws tokens a x f (inr (l, its, shallow, none, s)) (shallow', is) = none (bare f) (laws.plain tokens f is)
 
-same_reason : (error : ElabError) (r s : Reason) → reason_of error ≡ Some r → reason_of error ≡ Some s → r ≡ s
+same_reason : (error : ElabError) (r s : Reason) → elab_reason error ≡ Some r → elab_reason error ≡ Some s → r ≡ s
 same_reason error r s e f = let same : Some r ≡ Some s = sym e ∙ f in cc
 
-pub no_reason : (error : ElabError) (r : Reason) → reason_of error ≡ Some r → error ≡ Memory → ⊥
-no_reason error r e memory = let none : None ≡ Some r = ap reason_of (sym memory) ∙ e in cc
+pub no_reason : (error : ElabError) (r : Reason) → elab_reason error ≡ Some r → error ≡ Memory → ⊥
+no_reason error r e memory = let none : None ≡ Some r = ap elab_reason (sym memory) ∙ e in cc
 
 one-refused_file : (top : List ℕ) (f : FileOf ℕ) → One (IsRefusedFile top f)
 one-refused_file top f a b x y (e, is, (r, names, s)) (d, is', (q, names', s')) = elim (one_refusal f top e d is is') [
@@ -83,7 +84,7 @@ one-refused_file top f a b x y (e, is, (r, names, s)) (d, is', (q, names', s')) 
   | inr rest ↦ elim rest [
     | inl memory ↦ absurd (no_reason d q names' memory)
     | inr same ↦
-        let reason = same_reason d q r names' (ap reason_of (sym same) ∙ names) in
+        let reason = same_reason d q r names' (ap elab_reason (sym same) ∙ names) in
         one-said (Refused words.Design r) (reason_line words.Design r) a b x y s
         (subst (λ (k : Reason). IsRefusal words.Design k b y) reason s')
   ]

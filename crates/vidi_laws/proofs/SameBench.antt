@@ -16,10 +16,11 @@ use Rattle.vidi_commands.specs.report_text.Reason.{reason_line}
 use Rattle.vidi_commands.specs.vidi_bench.declared.bench.Bench.{Bench}
 use Rattle.vidi_commands.specs.vidi_bench.declared.status.Status.{Status}
 use Rattle.vidi_commands.specs.vidi_bench.declared.status.Status.TheVariants.{Refused}
-use Rattle.vidi_commands.specs.vidi_bench.Steps.{Ending, IsRefusal}
+use Rattle.vidi_commands.specs.vidi_bench.Reasons.{script_reason}
+use Rattle.vidi_commands.specs.vidi_bench.Steps.{Ending, IsRefusal, IsRefusalFor}
 use Rattle.vidi_commands.specs.vidi_bench.Reading.{IsRead, Reading}
 use Rattle.vidi_commands.specs.vidi_bench.Design.{text_limit}
-use Rattle.vidi_commands.specs.vidi_bench.Benches.{script_reason, IsScriptRefusal, IsNoScript, ReadTexts, RefusedTexts, IsBench}
+use Rattle.vidi_commands.specs.vidi_bench.Benches.{IsNoScript, ReadTexts, RefusedTexts, IsBench}
 use Rattle.vidi_laws.proofs.OneEnding.{Same, Meet, Apart, One, OneBy, one-said, one-reading-by, reading-apart}
 use Rattle.vidi_laws.proofs.OneCheck.{Alike, alike}
 use Rattle.vidi_laws.proofs.SameDevice.{DeviceLaws, SameDevice, one-wiring, same-device, wiring-apart}
@@ -38,7 +39,7 @@ no-script_reason : (e : ScriptError) (r : Reason) → script_reason e ≡ Some r
 no-script_reason e r names memory = let none : None ≡ Some r = ap script_reason (sym memory) ∙ names in cc
 
 script-refusals : (e f : ScriptError) → (e ≡ errors.Memory) ⊎ (f ≡ errors.Memory) ⊎ (e ≡ f)
-    → Meet Same (IsScriptRefusal e) (IsScriptRefusal f)
+    → Meet Same (IsRefusalFor words.Script (script_reason e)) (IsRefusalFor words.Script (script_reason f))
 script-refusals e f (inl memory) a b x y (r, names, s) (q, names', s') = absurd (no-script_reason e r names memory)
 script-refusals e f (inr (inl memory)) a b x y (r, names, s) (q, names', s') = absurd (no-script_reason f q names' memory)
 script-refusals e f (inr (inr same)) a b x y (r, names, s) (q, names', s') =

@@ -28,9 +28,10 @@ use Rattle.vidi_commands.specs.report_text.Reason.{reason_line}
 use Rattle.vidi_commands.specs.vidi_bench.declared.device.Device.{Device}
 use Rattle.vidi_commands.specs.vidi_bench.declared.status.Status.{Status}
 use Rattle.vidi_commands.specs.vidi_bench.declared.status.Status.TheVariants.{Refused}
-use Rattle.vidi_commands.specs.vidi_bench.Steps.{Ending, IsRefusal}
+use Rattle.vidi_commands.specs.vidi_bench.Reasons.{map_reason}
+use Rattle.vidi_commands.specs.vidi_bench.Steps.{Ending, IsRefusal, IsRefusalFor}
 use Rattle.vidi_commands.specs.vidi_bench.Design.{IsAccepted, Building}
-use Rattle.vidi_commands.specs.vidi_bench.Devices.{map_reason, Binding, IsDevice, IsMapRefusal, IsNoMap, IsUnbound, Mapping, Wiring}
+use Rattle.vidi_commands.specs.vidi_bench.Devices.{Binding, IsDevice, IsNoMap, IsUnbound, Mapping, Wiring}
 use Rattle.vidi_laws.proofs.OneEnding.{Same, Meet, Apart, One, OneBy, one-said, one-step-by, step-meets}
 use Rattle.vidi_laws.proofs.OneCheck.{TextLaws, Alike, alike, one-spelled, text-apart, one-spelling, file-apart, looped-apart, one-building}
 
@@ -50,7 +51,7 @@ no-map_reason : (e : MapError) (r : Reason) → map_reason e ≡ Some r → e �
 no-map_reason e r names memory = let none : None ≡ Some r = ap map_reason (sym memory) ∙ names in cc
 
 map-refusals : (e f : MapError) → (e ≡ errors.Memory) ⊎ (f ≡ errors.Memory) ⊎ (e ≡ f)
-    → Meet Same (IsMapRefusal e) (IsMapRefusal f)
+    → Meet Same (IsRefusalFor words.Map (map_reason e)) (IsRefusalFor words.Map (map_reason f))
 map-refusals e f (inl memory) a b x y (r, names, s) (q, names', s') = absurd (no-map_reason e r names memory)
 map-refusals e f (inr (inl memory)) a b x y (r, names, s) (q, names', s') = absurd (no-map_reason f q names' memory)
 map-refusals e f (inr (inr same)) a b x y (r, names, s) (q, names', s') =
