@@ -1,6 +1,10 @@
 pub mod Text
 pub mod Report
 pub mod Reason
+pub mod AxiReasons
+pub mod DesignReasons
+pub mod MapReasons
+pub mod ScriptReasons
 pub mod Trace
 pub mod Rows
 pub mod Short

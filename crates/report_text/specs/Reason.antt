@@ -2,13 +2,13 @@
 use Rattle.std.specs.Prelude.{ℕ, List, ◌++◌, codes, decimal}
 use Rattle.report_text.specs.declared.reason.Word.{Word}
 use Rattle.report_text.specs.declared.reason.Word.TheVariants as words
-use Rattle.vlog_elab.specs.declared.error.Big.{Big}
-use Rattle.vlog_elab.specs.declared.error.Big.TheVariants.{Instances, Nets, Words}
-use Rattle.run_model.specs.chan_map.declared.error.MapLimit.{MapLimit}
-use Rattle.run_model.specs.chan_map.declared.error.MapLimit.TheVariants.{Channels, Ports, Bytes}
 use Rattle.report_text.specs.declared.reason.Reason.{Reason}
 use Rattle.report_text.specs.declared.reason.Reason.TheVariants as reasons
-use Rattle.report_text.specs.Text.{newline, spaced}
+use Rattle.report_text.specs.AxiReasons.{broken_text, lack_name}
+use Rattle.report_text.specs.DesignReasons.{big_text, drive_text, latch_text, loop_text, width_text}
+use Rattle.report_text.specs.MapReasons.{cover_text, limit_text}
+use Rattle.report_text.specs.ScriptReasons.{small_text, wave_long_text}
+use Rattle.report_text.specs.Text.{newline}
 
 abbrev pub word_text : Word → List ℕ
 word_text words.Design = codes "design"
@@ -17,49 +17,14 @@ word_text words.Script = codes "script"
 word_text words.Stalls = codes "stalls"
 word_text words.Trace = codes "trace"
 word_text words.Other = codes "other"
+word_text words.Wave = codes "wave"
+word_text words.Axi = codes "axi"
 
 -- `vidi: read fault W`
 abbrev pub read_fault_line : Word → List ℕ
 read_fault_line word = codes "vidi: read fault " ++ (word_text word ++ newline)
 
-abbrev pub big_text : Big → List ℕ
-big_text Instances = codes "instances"
-big_text Nets = codes "nets"
-big_text Words = codes "words"
-
--- `E6 width line L got N`
-abbrev pub width_text : ℕ → ℕ → List ℕ
-width_text line got = (codes "E6 width line " ++ decimal line) ++ (codes " got " ++ decimal got)
-
--- `E8 drive X bit N drivers N`
-abbrev pub drive_text : List ℕ → ℕ → ℕ → List ℕ
-drive_text name bit drivers = (codes "E8 drive " ++ name) ++ ((codes " bit " ++ decimal bit) ++ (codes " drivers " ++ decimal drivers))
-
--- `E9 latch X line L`
-abbrev pub latch_text : List ℕ → ℕ → List ℕ
-latch_text name line = (codes "E9 latch " ++ name) ++ (codes " line " ++ decimal line)
-
--- `E10 loop lines L ..`
-abbrev pub loop_text : List ℕ → List ℕ
-loop_text lines = codes "E10 loop lines" ++ spaced lines
-
-abbrev pub limit_name : MapLimit → List ℕ
-limit_name Channels = codes "channels"
-limit_name Ports = codes "ports"
-limit_name Bytes = codes "bytes"
-
--- `M3 cover X times N`
-abbrev pub cover_text : List ℕ → ℕ → List ℕ
-cover_text port times = (codes "M3 cover " ++ port) ++ (codes " times " ++ decimal times)
-
--- `M4 limit channels got N`
-abbrev pub limit_text : MapLimit → ℕ → List ℕ
-limit_text what got = (codes "M4 limit " ++ limit_name what) ++ (codes " got " ++ decimal got)
-
--- `too small need N given N`
-abbrev pub small_text : ℕ → ℕ → List ℕ
-small_text need given = (codes "too small need " ++ decimal need) ++ (codes " given " ++ decimal given)
-
+-- the reason alone
 abbrev pub reason_text : Reason → List ℕ
 reason_text (reasons.TooLong limit) = codes "too long, limit " ++ decimal limit
 reason_text (reasons.Word line) = codes "E1 word line " ++ decimal line
@@ -90,6 +55,19 @@ reason_text (reasons.OtherChannels at) = codes "other channels at " ++ decimal a
 reason_text (reasons.Reserved name) = codes "reserved " ++ name
 reason_text (reasons.Wrapped number) = codes "wrapped has E" ++ decimal number
 reason_text reasons.WrapLong = codes "wrapped text too long"
+reason_text reasons.OldTrace = codes "old trace"
+reason_text (reasons.HasReset index) = codes "reset in packet " ++ decimal index
+reason_text (reasons.WaveLong nets cycles) = wave_long_text nets cycles
+reason_text reasons.BadWave = codes "bad wave"
+reason_text reasons.NoNet = codes "no net"
+reason_text (reasons.NoCycle cycles) = codes "no cycle, cycles " ++ decimal cycles
+reason_text (reasons.AxiLine line) = codes "A1 line " ++ decimal line
+reason_text (reasons.AxiPort line) = codes "A2 port line " ++ decimal line
+reason_text (reasons.Broken rule channel index) = broken_text rule channel index
+reason_text (reasons.Serve what) = codes "serve " ++ lack_name what
+reason_text (reasons.NoEnd which) = codes "no end " ++ decimal which
+reason_text reasons.SameEnd = codes "same end"
+reason_text (reasons.Blocked packet) = codes "blocked by packet " ++ decimal packet
 
 -- `vidi: refused W: ` and the reason
 abbrev pub reason_line : Word → Reason → List ℕ

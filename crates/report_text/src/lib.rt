@@ -11,7 +11,7 @@ mod text;
 mod trace_lines;
 mod trace_text;
 
-pub use reason::{Reason, Word, read_fault_line, reason_line};
+pub use reason::{Lack, Reason, Word, read_fault_line, reason_line};
 pub use report::report_lines;
 pub use row_lines::{RunLines, rows_text};
 pub use run_model::vidi_lines;

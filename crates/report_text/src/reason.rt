@@ -2,11 +2,19 @@
 
 ghost use Rattle.std.specs.Prelude.{◌≡◌, ◌++◌, OnOk, IfOk};
 ghost use Rattle.report_text.specs.Reason as said;
-ghost use Rattle.report_text.specs.Text.{spaced};
 
-use crate::text::{put, put_number, put_numbers};
-use itoa::Integer;
+mod axi;
+mod design;
+mod map;
+mod script;
+
+use crate::text::{put, put_named, put_with};
+pub use axi::Lack;
+use axi::{lack_name, put_broken};
+use design::{big_text, put_drive, put_latch, put_loop, put_width};
+use map::{put_cover, put_limit};
 use run_model::chan_map::MapLimit;
+use script::{put_small, put_wave_long};
 use std::alloc::Global;
 use text_page::vidi_io::vidi_bits::{Bytes, Items, Memory, Name};
 use vlog_elab::Big;
@@ -22,71 +30,185 @@ pub enum Word {
     Trace,
     /// The second trace of a comparison.
     Other,
+    /// A value change dump.
+    Wave,
+    /// What the channels of a trace are in AXI4.
+    Axi,
 }
 
 /// Why a file is refused. Lines are counted from 1.
 #[derive(Drop)]
 pub enum Reason {
     /// The file has more than `limit` bytes.
-    TooLong { limit: u64 },
+    TooLong {
+        limit: u64,
+    },
     /// E1: at a place of this line neither a token nor white space nor a comment begins.
-    Word { line: u32 },
+    Word {
+        line: u32,
+    },
     /// E14: a limit of nesting or length is passed, first at a token of this line.
-    Deep { line: u32 },
+    Deep {
+        line: u32,
+    },
     /// E2: the text isn't in the grammar. The line is that of the first token behind the longest list of
     /// whole units, or where no token follows the last token's, 1 if there is none.
-    Item { line: u32 },
+    Item {
+        line: u32,
+    },
     /// E3: this name stands twice.
-    Twice { name: Name },
+    Twice {
+        name: Name,
+    },
     /// E4: this name isn't declared.
-    Unknown { name: Name },
+    Unknown {
+        name: Name,
+    },
     /// E7: a name on this line isn't of the kind that stands there.
-    Kind { line: u32 },
+    Kind {
+        line: u32,
+    },
     /// E11: the module of this name contains itself.
-    Nested { name: Name },
+    Nested {
+        name: Name,
+    },
     /// E12: there is more of this than the limit.
-    TooBig { what: Big },
+    TooBig {
+        what: Big,
+    },
     /// E5: what has to be constant on this line isn't.
-    Const { line: u32 },
+    Const {
+        line: u32,
+    },
     /// E6: a width or place on this line isn't lawful; `got` is its number.
-    Width { line: u32, got: u128 },
+    Width {
+        line: u32,
+        got: u128,
+    },
     /// E13: the clock on this line isn't the one that all clocked blocks have, or is read.
-    Clock { line: u32 },
+    Clock {
+        line: u32,
+    },
     /// E8: this bit of the net has so many drivers.
-    Drive { name: Name, bit: u32, drivers: u32 },
+    Drive {
+        name: Name,
+        bit: u32,
+        drivers: u32,
+    },
     /// E9: the block on this line leaves this name open.
-    Latch { name: Name, line: u32 },
+    Latch {
+        name: Name,
+        line: u32,
+    },
     /// E10: the drivers on these lines read one another in a circle.
-    Loop { lines: Items<u32> },
+    Loop {
+        lines: Items<u32>,
+    },
     /// M1: this line of the map is bad, of no form or missing.
-    MapLine { line: u32 },
+    MapLine {
+        line: u32,
+    },
     /// M2: this line of the map doesn't fit the design's ports.
-    MapPort { line: u32 },
+    MapPort {
+        line: u32,
+    },
     /// M3: the map names this port of the top so many times, which isn't once.
-    Cover { port: Name, times: u32 },
+    Cover {
+        port: Name,
+        times: u32,
+    },
     /// M4: a limit of the map, and what is outside it.
-    Limit { what: MapLimit, got: u32 },
+    Limit {
+        what: MapLimit,
+        got: u32,
+    },
     /// S1: this line of the script is bad, of no form or missing.
-    ScriptLine { line: u32 },
+    ScriptLine {
+        line: u32,
+    },
     /// S2: the channel on this line of the script isn't in the map, or has the other direction.
-    ScriptChannel { line: u32 },
+    ScriptChannel {
+        line: u32,
+    },
     /// S3: a number on this line of the script is out of range.
-    ScriptNumber { line: u32 },
+    ScriptNumber {
+        line: u32,
+    },
     /// P1: this line of the plan of stalls is bad, of no form or missing.
-    StallLine { line: u32 },
+    StallLine {
+        line: u32,
+    },
     /// The store of the plan has fewer bytes than the map's channels need.
-    TooSmall { need: u64, given: u32 },
+    TooSmall {
+        need: u64,
+        given: u32,
+    },
     /// The file is no encoding of a trace; `at` is the place of the fault in bytes.
-    BadTrace { at: u64 },
+    BadTrace {
+        at: u64,
+    },
     /// The channels of the trace are others than those of the map that it is replayed on, or of the trace that it is compared with; the
     /// first that differs stands at place `at`.
-    OtherChannels { at: usize },
+    OtherChannels {
+        at: usize,
+    },
     /// A module of the design has this name, which is kept for shims.
-    Reserved { name: Name },
+    Reserved {
+        name: Name,
+    },
     /// The reason of this number, as 12 for E12, holds of the wrapped design.
-    Wrapped { number: u32 },
+    Wrapped {
+        number: u32,
+    },
     /// The text of the wrapped design has more bytes than a design's text may have.
     WrapLong,
+    /// The file begins as a trace of version 1 does.
+    OldTrace,
+    /// The trace has a reset packet, first at place `index`.
+    HasReset {
+        index: u32,
+    },
+    /// The wave of so many nets and cycles would have more numbers than a wave may have.
+    WaveLong {
+        nets: u32,
+        cycles: u32,
+    },
+    /// The file is the text of no wave.
+    BadWave,
+    /// No net of the wave has the name that is asked for.
+    NoNet,
+    /// The wave has so many cycles, and the one that is asked for comes after them.
+    NoCycle {
+        cycles: u32,
+    },
+    /// A1: this line of the AXI file is bad, of no form or missing.
+    AxiLine {
+        line: u32,
+    },
+    /// A2: this line of the AXI file doesn't fit the trace's channels.
+    AxiPort {
+        line: u32,
+    },
+    /// The transaction of this index on this channel breaks this rule of bursts.
+    Broken {
+        rule: u32,
+        channel: Name,
+        index: u32,
+    },
+    /// With this AXI file no memory can be served.
+    Serve {
+        what: Lack,
+    },
+    /// The trace hasn't the completion that is named first (1) or second (2).
+    NoEnd {
+        which: u32,
+    },
+    /// Both names are of one completion.
+    SameEnd,
+    /// The packet at this place keeps the completion from its new place.
+    Blocked {
+        packet: u32,
+    },
 }
 
 /// The line that refuses a file (this project's profile).
@@ -135,99 +257,23 @@ fn put_reason(text: &mut Vec<u8>, reason: &Reason) -> Result<(), Memory>
         Reason::Reserved { name } => put_named(text, b"reserved ", name.as_slice()),
         Reason::Wrapped { number } => put_with(text, b"wrapped has E", *number),
         Reason::WrapLong => put(text, b"wrapped text too long"),
-    }
-}
-
-fn put_cover(text: &mut Vec<u8>, port: &[u8], times: u32) -> Result<(), Memory>
-    ensures { OnOk result (text.new.items ≡ text.old.items ++ said.cover_text port.now times) }
-{
-    put_named(text, b"M3 cover ", port)?;
-    put_with(text, b" times ", times)
-}
-
-fn put_limit(text: &mut Vec<u8>, what: MapLimit, got: u32) -> Result<(), Memory>
-    ensures { OnOk result (text.new.items ≡ text.old.items ++ said.limit_text what got) }
-{
-    put_named(text, b"M4 limit ", limit_name(what))?;
-    put_with(text, b" got ", got)
-}
-
-fn put_small(text: &mut Vec<u8>, need: u64, given: u32) -> Result<(), Memory>
-    ensures { OnOk result (text.new.items ≡ text.old.items ++ said.small_text need given) }
-{
-    put_with(text, b"too small need ", need)?;
-    put_with(text, b" given ", given)
-}
-
-fn limit_name(what: MapLimit) -> &'static [u8]
-    ensures { result.now ≡ said.limit_name what }
-{
-    match what {
-        MapLimit::Channels => b"channels",
-        MapLimit::Ports => b"ports",
-        MapLimit::Bytes => b"bytes",
-    }
-}
-
-/// Adds a label, and a number in decimal.
-fn put_with<I: Integer>(text: &mut Vec<u8>, label: &[u8], number: I) -> Result<(), Memory>
-    ensures { OnOk result (text.new.items ≡ text.old.items ++ (label.now ++ I.text number)) }
-{
-    put(text, label)?;
-    put_number(text, number)
-}
-
-/// Adds a label, and a name.
-fn put_named(text: &mut Vec<u8>, label: &[u8], name: &[u8]) -> Result<(), Memory>
-    ensures { OnOk result (text.new.items ≡ text.old.items ++ (label.now ++ name.now)) }
-{
-    put(text, label)?;
-    put(text, name)
-}
-
-fn put_width(text: &mut Vec<u8>, line: u32, got: u128) -> Result<(), Memory>
-    ensures { OnOk result (text.new.items ≡ text.old.items ++ said.width_text line got) }
-{
-    put_with(text, b"E6 width line ", line)?;
-    put_with(text, b" got ", got)
-}
-
-fn put_drive(text: &mut Vec<u8>, name: &[u8], bit: u32, drivers: u32) -> Result<(), Memory>
-    ensures { OnOk result (text.new.items ≡ text.old.items ++ said.drive_text name.now bit drivers) }
-{
-    put_named(text, b"E8 drive ", name)?;
-    put_with(text, b" bit ", bit)?;
-    put_with(text, b" drivers ", drivers)
-}
-
-fn put_latch(text: &mut Vec<u8>, name: &[u8], line: u32) -> Result<(), Memory>
-    ensures { OnOk result (text.new.items ≡ text.old.items ++ said.latch_text name.now line) }
-{
-    put_named(text, b"E9 latch ", name)?;
-    put_with(text, b" line ", line)
-}
-
-fn put_loop(text: &mut Vec<u8>, lines: &[u32]) -> Result<(), Memory>
-    ensures { OnOk result (text.new.items ≡ text.old.items ++ said.loop_text lines.now) }
-{
-    put_listed(text, b"E10 loop lines", lines)
-}
-
-/// Adds a label, and each number after a space.
-fn put_listed(text: &mut Vec<u8>, label: &[u8], numbers: &[u32]) -> Result<(), Memory>
-    ensures { OnOk result (text.new.items ≡ text.old.items ++ (label.now ++ spaced numbers.now)) }
-{
-    put(text, label)?;
-    put_numbers(text, numbers)
-}
-
-fn big_text(what: Big) -> &'static [u8]
-    ensures { result.now ≡ said.big_text what }
-{
-    match what {
-        Big::Instances => b"instances",
-        Big::Nets => b"nets",
-        Big::Words => b"words",
+        Reason::OldTrace => put(text, b"old trace"),
+        Reason::HasReset { index } => put_with(text, b"reset in packet ", *index),
+        Reason::WaveLong { nets, cycles } => put_wave_long(text, *nets, *cycles),
+        Reason::BadWave => put(text, b"bad wave"),
+        Reason::NoNet => put(text, b"no net"),
+        Reason::NoCycle { cycles } => put_with(text, b"no cycle, cycles ", *cycles),
+        Reason::AxiLine { line } => put_with(text, b"A1 line ", *line),
+        Reason::AxiPort { line } => put_with(text, b"A2 port line ", *line),
+        Reason::Broken {
+            rule,
+            channel,
+            index,
+        } => put_broken(text, *rule, channel.as_slice(), *index),
+        Reason::Serve { what } => put_named(text, b"serve ", lack_name(*what)),
+        Reason::NoEnd { which } => put_with(text, b"no end ", *which),
+        Reason::SameEnd => put(text, b"same end"),
+        Reason::Blocked { packet } => put_with(text, b"blocked by packet ", *packet),
     }
 }
 
@@ -252,5 +298,7 @@ fn word_text(word: Word) -> &'static [u8]
         Word::Stalls => b"stalls",
         Word::Trace => b"trace",
         Word::Other => b"other",
+        Word::Wave => b"wave",
+        Word::Axi => b"axi",
     }
 }
