@@ -131,15 +131,17 @@ class Kit:
     def library(self, crate):
         return ROOT / "crates" / crate / "out" / "rlib" / f"{crate}.rlib" if crate in self.uses else self.at / "rlibs" / f"{crate}.rlib"
 
-    def command(self, crate, functions):
+    def command(self, verb, crate, words):
+        """A call of the checker on a crate, to be made in the crate's folder or in a copy of it."""
+        root = "src/main.rt" if (ROOT / "crates" / crate / "src" / "main.rt").is_file() else "src/lib.rt"
         externs = [f"{it}={self.library(it)}" for it in ["std", *self.uses[crate]]]
         folders = [self.at / "rlibs", *(self.library(it).parent for it in self.below(crate))]
         return [
-            *[self.at / "bin" / "rattle", "check", "--crate-name", crate, "src/lib.rt", "--jobs", "1", "--links", f"{crate}="],
+            *[self.at / "bin" / "rattle", verb, "--crate-name", crate, root, "--links", f"{crate}="],
             *[word for it in externs for word in ("--extern", it)],
             *[word for it in folders for word in ("-L", f"dependency={it}")],
             *["--antt-project", self.at / "rattle" / "logic" / "antt-project.json", "--logic-built", self.at / "logic_built"],
-            *[word for it in functions for word in ("--only", it)],
+            *words,
         ]
 
     @functools.cache
@@ -163,8 +165,9 @@ def check_with(kit, crate, edits):
                 shutil.copytree(ROOT / "crates" / crate / part, f"{room}/{part}")
         for edit in edits:
             edit.make_in(room)
-        words = kit.command(crate, sorted({edit.function[0] for edit in edits}))
-        return subprocess.run(words, cwd=room, stdout=subprocess.PIPE, stderr=subprocess.STDOUT, text=True, errors="replace")
+        functions = sorted({edit.function[0] for edit in edits})
+        words = ["--jobs", "1", *(word for it in functions for word in ("--only", it))]
+        return subprocess.run(kit.command("check", crate, words), cwd=room, stdout=subprocess.PIPE, stderr=subprocess.STDOUT, text=True, errors="replace")
 
 
 def own_goal(edit, said):

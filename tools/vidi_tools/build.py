@@ -61,10 +61,11 @@ def done(words, **options):
         raise Problem(f"{os.path.basename(words[0])}: {last[0] if last else 'failed'}")
 
 
-def built(kit, folder, options):
-    """The path of the program, compiled at -O2 of what rt try had compiled."""
-    tool_kit.at_work(options, "rt try compiles crates/vidi and what it stands on, without proofs; some two minutes")
-    crate = os.path.join(tool_kit.HERE, "..", "crates", "vidi")
+def built(crate, folder, options):
+    """The path of the program of a crate's folder, compiled at -O2 of what rt try had compiled."""
+    kit, name = kit_folder(), os.path.basename(crate)
+    keeping_kit(kit, folder)
+    tool_kit.at_work(options, f"rt try compiles {name} and what it stands on, without proofs; some two minutes")
     tried = subprocess.run(["python3", f"{folder}/bin/rt", "try", "--", "nothing"], cwd=crate, capture_output=True, text=True)
     modules = sorted(glob.glob(f"{folder}/keep/clang.*/module.bc"), key=os.path.getsize)
     links = glob.glob(f"{folder}/keep/ld.lld.*")
@@ -75,11 +76,11 @@ def built(kit, folder, options):
     tool_kit.at_work(options, "clang compiles it again, at -O2; a minute or two")
     tools, lib = f"{kit}/toolchain", f"{kit}/toolchain/lib"
     done([f"{tools}/bin/clang", f"--sysroot={tools}", *COMPILE, modules[-1], "-o", f"{folder}/main.o"])
-    done([f"{tools}/bin/ld.lld", *LINK, "-o", f"{folder}/vidi", *(f"{lib}/{name}" for name in ("Scrt1.o", "crti.o", "crtbeginS.o")),
+    done([f"{tools}/bin/ld.lld", *LINK, "-o", f"{folder}/program", *(f"{lib}/{name}" for name in ("Scrt1.o", "crti.o", "crtbeginS.o")),
           f"{folder}/main.o", "input-1", "input-2", "input-3",
           *(f"{lib}/{name}" for name in ("libm.so.6", "libc.so.6", "libc_nonshared.a", "ld-linux-x86-64.so.2", "libgcc.a", "libgcc_s.so.1",
                                          "crtendS.o", "crtn.o"))], cwd=links[0])
-    return f"{folder}/vidi"
+    return f"{folder}/program"
 
 
 def main():
@@ -93,9 +94,7 @@ def main():
     if not os.path.isdir(os.path.dirname(os.path.abspath(options.out))):
         raise Problem(f"{options.out}: no such folder")
     with tempfile.TemporaryDirectory() as folder:
-        kit = kit_folder()
-        keeping_kit(kit, folder)
-        with open(built(kit, folder, options), "rb") as file:
+        with open(built(os.path.join(tool_kit.HERE, "..", "crates", "vidi"), folder, options), "rb") as file:
             program = file.read()
     tool_kit.write(options.out, program + LABEL)
     os.chmod(options.out, 0o755)

@@ -3,20 +3,20 @@ use Rattle.std.proofs.Common.{◌≡◌, ℕ, ◌⊎◌, inl, inr, List, [], ◌
 use Rattle.std.proofs.Common.{Option, None, Some, slice_get, option_map}
 use Rattle.std.specs.List.{Contains, flat_map}
 use Rattle.std.proofs.lemmas.Option.{slice_get-map}
-use Rattle.flat_laws.proofs.vidi_bits_lemmas.Lists.{none_in, head_in, tail_in, cases_in, in_flat, from_flat}
+use Rattle.flat_parts.proofs.vidi_bits_lemmas.Lists.{none_in, head_in, tail_in, cases_in, in_flat, from_flat}
 use Rattle.vlog_tree.specs.Tree.{InstanceOf, ItemOf, WiresItem, DrivenWiresItem, RegsItem, LocalparamsItem, AssignItem, AlwaysItem}
 use Rattle.vlog_tree.specs.Tree.{InstanceItem, ModuleOf}
-use Rattle.flat_laws.specs.vlog_size.Table.{Named}
-use Rattle.flat_laws.specs.vlog_size.declared.scope.Param.{Param}
-use Rattle.flat_laws.specs.vlog_size.declared.scope.Scope.{Scope}
-use Rattle.flat_laws.specs.vlog_elab.Scope.{readable_at, after_item, scope_of}
-use Rattle.flat_laws.specs.vlog_hierarchy.Outlines.{Child, place_of, child_at, item_children, children_of, outline_of, outlines_of, children_in}
-use Rattle.flat_laws.specs.vlog_hierarchy.Outlines.{children_at}
-use Rattle.flat_laws.specs.vlog_meaning.Placed.{Placed, placed}
-use Rattle.flat_laws.specs.vlog_meaning.Instances.{IsChild}
-use Rattle.flat_laws.proofs.Named.{named_at, place_is}
-use Rattle.flat_laws.specs.vlog_names.Entries.{module_entry}
-use Rattle.flat_laws.specs.vlog_names.Different.{Differ}
+use Rattle.flat_parts.specs.vlog_size.Table.{Named}
+use Rattle.flat_parts.specs.vlog_size.declared.scope.Param.{Param}
+use Rattle.flat_parts.specs.vlog_size.declared.scope.Scope.{Scope}
+use Rattle.flat_parts.specs.vlog_elab.Scope.{readable_at, after_item, scope_of}
+use Rattle.flat_parts.specs.vlog_hierarchy.Outlines.{Child, place_of, child_at, item_children, children_of, outline_of, outlines_of, children_in}
+use Rattle.flat_parts.specs.vlog_hierarchy.Outlines.{children_at}
+use Rattle.flat_parts.specs.vlog_meaning.Placed.{Placed, placed}
+use Rattle.flat_parts.specs.vlog_meaning.Instances.{IsChild}
+use Rattle.flat_parts.proofs.Named.{named_at, place_is}
+use Rattle.flat_parts.specs.vlog_names.Entries.{module_entry}
+use Rattle.flat_parts.specs.vlog_names.Different.{Differ}
 
 pub kids_at : (ms : List (ModuleOf ℕ)) (k : ℕ) (m : ModuleOf ℕ) → slice_get ms k ≡ Some m
     → children_at (outlines_of ms) k ≡ flat_map (item_children ms) m.items

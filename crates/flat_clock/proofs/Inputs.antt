@@ -7,25 +7,25 @@ use Rattle.std.proofs.lemmas.Slice.Eq.{bytes_eq-Decides}
 use Rattle.std.proofs.lemmas.List.Elements.{Contains-append_cases, All-contains}
 use Rattle.std.proofs.lemmas.Iterator.Adapters.{position_from-zero}
 use Rattle.std.proofs.lemmas.Bool.{false_from_ne_true}
-use Rattle.flat_laws.proofs.vidi_bits_lemmas.Lists.{none_in, head_in, tail_in, cases_in}
-use Rattle.flat_laws.proofs.vidi_bits_lemmas.Bools.{left_of}
-use Rattle.flat_laws.specs.vidi_bits.Findings.{told_if}
+use Rattle.flat_parts.proofs.vidi_bits_lemmas.Lists.{none_in, head_in, tail_in, cases_in}
+use Rattle.flat_parts.proofs.vidi_bits_lemmas.Bools.{left_of}
+use Rattle.flat_parts.specs.vidi_bits.Findings.{told_if}
 use Rattle.vlog_tree.specs.declared.module.Direction.{Direction}
 use Rattle.vlog_tree.specs.declared.module.Direction.TheVariants.{Input, Output}
 use Rattle.vlog_tree.specs.Tree.{PortHeadOf, PortOf, ModuleOf}
-use Rattle.flat_laws.specs.vlog_size.declared.scope.ScopeNet.{ScopeNet}
-use Rattle.flat_laws.specs.vlog_size.declared.scope.Scope.{Scope}
-use Rattle.flat_laws.specs.vlog_size.Table.{Named, value_of}
-use Rattle.flat_laws.specs.vlog_names.declared.declaration.Declaration.{Declaration}
-use Rattle.flat_laws.specs.vlog_names.Entries.{entry, parameter_entry, port_as, port_entries, no_port, item_entries, header_entries, declared}
-use Rattle.flat_laws.specs.vlog_names.Different.{Differ, OtherName}
-use Rattle.flat_laws.specs.vlog_names.Ports.{is_input_port, input_after}
-use Rattle.flat_laws.specs.vlog_elab.Clock as clock
-use Rattle.flat_laws.specs.vlog_meaning.Names.{Name}
-use Rattle.flat_laws.specs.vlog_meaning.Settled.{is_input, input_names, inputs_of}
+use Rattle.flat_parts.specs.vlog_size.declared.scope.ScopeNet.{ScopeNet}
+use Rattle.flat_parts.specs.vlog_size.declared.scope.Scope.{Scope}
+use Rattle.flat_parts.specs.vlog_size.Table.{Named, value_of}
+use Rattle.flat_parts.specs.vlog_names.declared.declaration.Declaration.{Declaration}
+use Rattle.flat_parts.specs.vlog_names.Entries.{entry, parameter_entry, port_as, port_entries, no_port, item_entries, header_entries, declared}
+use Rattle.flat_parts.specs.vlog_names.Different.{Differ, OtherName}
+use Rattle.flat_parts.specs.vlog_names.Ports.{is_input_port, input_after}
+use Rattle.flat_parts.specs.vlog_elab.Clock as clock
+use Rattle.flat_parts.specs.vlog_meaning.Names.{Name}
+use Rattle.flat_parts.specs.vlog_meaning.Settled.{is_input, input_names, inputs_of}
 use Rattle.net_design.specs.declared.design.Port.{Port}
-use Rattle.flat_laws.specs.flat_parts.Nets.{port_of, flat_ports}
-use Rattle.flat_laws.proofs.Lists.{pairs_first, pairs_rest, pairs_behind, pairs_front}
+use Rattle.flat_parts.specs.Nets.{port_of, flat_ports}
+use Rattle.flat_parts.proofs.Lists.{pairs_first, pairs_rest, pairs_behind, pairs_front}
 use Rattle.flat_clock.specs.Clock.{port_named}
 
 -- ---- inputs

@@ -5,4 +5,4 @@ pub mod Inputs
 pub mod Named
 pub mod Placed
 pub mod Positions
-pub use Rattle.flat_laws.proofs as flat_laws_lemmas
+pub use Rattle.flat_parts.proofs as flat_parts_lemmas

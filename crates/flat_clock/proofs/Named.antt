@@ -4,40 +4,40 @@ use Rattle.std.proofs.Common.{◌∙◌, arith, Option, None, Some, slice_get, B
 use Rattle.std.specs.List.{Contains, flat_map}
 use Rattle.std.proofs.lemmas.List.{length-map}
 use Rattle.std.proofs.lemmas.Bool.{not-false}
-use Rattle.flat_laws.proofs.vidi_bits_lemmas.FindingLaws.{told_none}
-use Rattle.flat_laws.proofs.vidi_bits_lemmas.Lists.{none_in, cases_in, from_flat, nil_left, nil_right, none_mapped}
+use Rattle.flat_parts.proofs.vidi_bits_lemmas.FindingLaws.{told_none}
+use Rattle.flat_parts.proofs.vidi_bits_lemmas.Lists.{none_in, cases_in, from_flat, nil_left, nil_right, none_mapped}
 use Rattle.vlog_tree.specs.Tree.{IdentOf, EventOf, PosedgeEvent, ImplicitEvent, AlwaysOf, InstanceOf, ItemOf, WiresItem, DrivenWiresItem}
 use Rattle.vlog_tree.specs.Tree.{RegsItem, LocalparamsItem, AssignItem, AlwaysItem, InstanceItem, ModuleOf, FileOf}
-use Rattle.flat_laws.specs.vlog_size.Table.{Named, value_of}
-use Rattle.flat_laws.specs.vlog_size.declared.scope.Scope.{Scope}
-use Rattle.flat_laws.specs.vlog_elab.Scope.{scope_with}
-use Rattle.flat_laws.specs.vlog_names.Entries.{Names, item_entries, header_entries, module_entry}
-use Rattle.flat_laws.specs.vlog_names.Twice.{twice_name, twice_among, twice_connected, twice_item, twice_items, twice_in, twice_modules, twice_names}
-use Rattle.flat_laws.specs.vlog_hierarchy.declared.error.HierarchyError.TheVariants as error
-use Rattle.flat_laws.specs.vlog_hierarchy.declared.scopes.Scope as hierarchy
-use Rattle.flat_laws.specs.vlog_hierarchy.Outlines.{Outline, place_of, outlines_of}
-use Rattle.flat_laws.specs.vlog_hierarchy.Nodes.{Node, nodes_of}
-use Rattle.flat_laws.specs.vlog_hierarchy.Clock.{scopes, scopes_of, ports_from, items_in, items_at, event_ports, item_ports, scope_ports, clock_ports}
-use Rattle.flat_laws.specs.vlog_hierarchy.Clock.{first_port, same_port, clock_marks, event_faults, body_faults, item_faults, scope_faults}
-use Rattle.flat_laws.specs.vlog_hierarchy.Clock.{clock_faults}
-use Rattle.flat_laws.proofs.vlog_hierarchy_lemmas.Scoped.{same_places}
-use Rattle.flat_laws.specs.vlog_elab.Errors.{of_hierarchy}
-use Rattle.flat_laws.specs.vlog_elab.Instances.{ModuleInstance, instances, node_of}
-use Rattle.flat_laws.specs.vlog_elab.Clock.{clock_inputs}
-use Rattle.flat_laws.specs.vlog_elab.Reasons.{Clear, hierarchy_findings, instance_findings, clock_findings, late_findings, size_findings}
-use Rattle.flat_laws.proofs.vlog_elab_lemmas.Same.{same_nodes}
-use Rattle.flat_laws.specs.vlog_meaning.Names.{Name, Full}
-use Rattle.flat_laws.specs.vlog_meaning.Settled.{inputs_of, Joins, Waits, IsClock}
-use Rattle.flat_laws.specs.flat_parts.Laws.{IsTop}
-use Rattle.flat_laws.proofs.Lists.{in_got}
-use Rattle.flat_laws.proofs.Found.{no_twice, modules_apart, few}
-use Rattle.flat_laws.proofs.Listed.{first_is_top}
+use Rattle.flat_parts.specs.vlog_size.Table.{Named, value_of}
+use Rattle.flat_parts.specs.vlog_size.declared.scope.Scope.{Scope}
+use Rattle.flat_parts.specs.vlog_elab.Scope.{scope_with}
+use Rattle.flat_parts.specs.vlog_names.Entries.{Names, item_entries, header_entries, module_entry}
+use Rattle.flat_parts.specs.vlog_names.Twice.{twice_name, twice_among, twice_connected, twice_item, twice_items, twice_in, twice_modules, twice_names}
+use Rattle.flat_parts.specs.vlog_hierarchy.declared.error.HierarchyError.TheVariants as error
+use Rattle.flat_parts.specs.vlog_hierarchy.declared.scopes.Scope as hierarchy
+use Rattle.flat_parts.specs.vlog_hierarchy.Outlines.{Outline, place_of, outlines_of}
+use Rattle.flat_parts.specs.vlog_hierarchy.Nodes.{Node, nodes_of}
+use Rattle.flat_parts.specs.vlog_hierarchy.Clock.{scopes, scopes_of, ports_from, items_in, items_at, event_ports, item_ports, scope_ports, clock_ports}
+use Rattle.flat_parts.specs.vlog_hierarchy.Clock.{first_port, same_port, clock_marks, event_faults, body_faults, item_faults, scope_faults}
+use Rattle.flat_parts.specs.vlog_hierarchy.Clock.{clock_faults}
+use Rattle.flat_parts.proofs.vlog_hierarchy_lemmas.Scoped.{same_places}
+use Rattle.flat_parts.specs.vlog_elab.Errors.{of_hierarchy}
+use Rattle.flat_parts.specs.vlog_elab.Instances.{ModuleInstance, instances, node_of}
+use Rattle.flat_parts.specs.vlog_elab.Clock.{clock_inputs}
+use Rattle.flat_parts.specs.vlog_elab.Reasons.{Clear, hierarchy_findings, instance_findings, clock_findings, late_findings, size_findings}
+use Rattle.flat_parts.proofs.vlog_elab_lemmas.Same.{same_nodes}
+use Rattle.flat_parts.specs.vlog_meaning.Names.{Name, Full}
+use Rattle.flat_parts.specs.vlog_meaning.Settled.{inputs_of, Joins, Waits, IsClock}
+use Rattle.flat_parts.specs.Laws.{IsTop}
+use Rattle.flat_parts.proofs.Lists.{in_got}
+use Rattle.flat_parts.proofs.Found.{no_twice, modules_apart, few}
+use Rattle.flat_parts.proofs.Listed.{first_is_top}
 use Rattle.flat_clock.specs.Clock.{joined_input, name_at, clock_name, ClockIsInput}
 use Rattle.flat_clock.proofs.Tables.{input_at}
 use Rattle.flat_clock.proofs.Children.{stands, item_in}
 use Rattle.flat_clock.proofs.Traces.{ConnectedOnce, Traced, traced, Joined, reached}
 use Rattle.flat_clock.proofs.Inputs.{one_bit_inputs_are}
-use Rattle.flat_laws.specs.vlog_hierarchy.declared.nodes.TheConstants.{MOST_INSTANCES, MOST_LEVELS}
+use Rattle.flat_parts.specs.vlog_hierarchy.declared.nodes.TheConstants.{MOST_INSTANCES, MOST_LEVELS}
 
 -- ---- no port is connected twice
 

@@ -1,18 +1,18 @@
 -- The port of the clock.
 use Rattle.std.proofs.Common.{◌≡◌, ℕ, ◌↔◌, List, [], map, refl, sym, ap, ◌∙◌, Option, None, Some, slice_get}
 use Rattle.vlog_tree.specs.Tree.{PortOf, ModuleOf, FileOf}
-use Rattle.flat_laws.specs.vlog_elab.Scope.{scope_with}
+use Rattle.flat_parts.specs.vlog_elab.Scope.{scope_with}
 use Rattle.net_design.specs.declared.design.Port.{Port}
-use Rattle.flat_laws.specs.vlog_elab.Instances.{ModuleInstance, instances}
-use Rattle.flat_laws.specs.vlog_elab.Clock.{clock_inputs}
-use Rattle.flat_laws.specs.vlog_elab.Reasons.{Clear}
-use Rattle.flat_laws.specs.vlog_meaning.Names.{Name}
-use Rattle.flat_laws.specs.flat_parts.Nets.{flat_ports}
-use Rattle.flat_laws.specs.flat_parts.Built.{IsClockPort}
-use Rattle.flat_laws.specs.flat_parts.Laws.{IsTop}
-use Rattle.flat_laws.proofs.Lists.{in_got}
-use Rattle.flat_laws.proofs.Found.{names_apart}
-use Rattle.flat_laws.proofs.Listed.{first_is_top}
+use Rattle.flat_parts.specs.vlog_elab.Instances.{ModuleInstance, instances}
+use Rattle.flat_parts.specs.vlog_elab.Clock.{clock_inputs}
+use Rattle.flat_parts.specs.vlog_elab.Reasons.{Clear}
+use Rattle.flat_parts.specs.vlog_meaning.Names.{Name}
+use Rattle.flat_parts.specs.Nets.{flat_ports}
+use Rattle.flat_parts.specs.Built.{IsClockPort}
+use Rattle.flat_parts.specs.Laws.{IsTop}
+use Rattle.flat_parts.proofs.Lists.{in_got}
+use Rattle.flat_parts.proofs.Found.{names_apart}
+use Rattle.flat_parts.proofs.Listed.{first_is_top}
 use Rattle.flat_clock.specs.Clock.{joined_input, name_at, port_named, place_in, clock_name, ClockIsPort}
 use Rattle.flat_clock.proofs.Inputs.{flat_names, place_of_name, name_of_place}
 use Rattle.flat_clock.proofs.Named.{clock_is_input}

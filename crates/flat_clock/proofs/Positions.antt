@@ -9,7 +9,7 @@ use Rattle.std.proofs.lemmas.Iterator.Adapters.{position_from-zero}
 use Rattle.vlog_tree.specs.Tree.{PortOf}
 use Rattle.vlog_tree.specs.Plain.{plain_port}
 use Rattle.vlog_tree.specs.declared.module.Port.{Port}
-use Rattle.flat_laws.specs.vlog_hierarchy.Plain.{plain_path}
+use Rattle.flat_parts.specs.vlog_hierarchy.Plain.{plain_path}
 use Rattle.flat_clock.specs.Clock.{name_at, port_named}
 
 same_from : (name : List ℕ) (f : ℕ) (ports : List Port)

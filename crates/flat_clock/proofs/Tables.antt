@@ -6,17 +6,17 @@ use Rattle.std.specs.Str.{bytes_eq}
 use Rattle.std.proofs.lemmas.Slice.Eq.{bytes_eq-Decides}
 use Rattle.std.proofs.lemmas.List.Elements.{Contains-append_left, Contains-push}
 use Rattle.std.proofs.lemmas.Bool.{false_from_ne_true}
-use Rattle.flat_laws.proofs.vidi_bits_lemmas.FindingLaws.{told_none}
-use Rattle.flat_laws.specs.vidi_bits.Findings.{or_first}
-use Rattle.flat_laws.proofs.vidi_bits_lemmas.Lists.{bytes_eq-self, none_in, head_in, tail_in, cases_in, nil_left, nil_right}
+use Rattle.flat_parts.proofs.vidi_bits_lemmas.FindingLaws.{told_none}
+use Rattle.flat_parts.specs.vidi_bits.Findings.{or_first}
+use Rattle.flat_parts.proofs.vidi_bits_lemmas.Lists.{bytes_eq-self, none_in, head_in, tail_in, cases_in, nil_left, nil_right}
 use Rattle.vlog_tree.specs.Tree.{IdentOf, ExprOf, UnaryExpr, BinaryExpr, ChoiceExpr, NumberPrim, RefPrim, ParenPrim, ConcatPrim}
 use Rattle.vlog_tree.specs.Tree.{RepeatPrim, RefWith, NoIndex, Index, NoLast, Last, ConnOf, InstanceOf}
-use Rattle.flat_laws.specs.vlog_size.Table.{Named, value_of, added}
-use Rattle.flat_laws.specs.vlog_names.Twice.{twice_name, twice_among, twice_connected, conn_entry}
-use Rattle.flat_laws.specs.vlog_hierarchy.Clock.{ports_from, plain_name, port_of_name, port_of_value, joined_as, conn_joined}
-use Rattle.flat_laws.specs.vlog_hierarchy.Clock.{conns_joined, child_joined}
-use Rattle.flat_laws.specs.vlog_meaning.Items.{read}
-use Rattle.flat_laws.specs.vlog_meaning.Settled.{ConnJoins}
+use Rattle.flat_parts.specs.vlog_size.Table.{Named, value_of, added}
+use Rattle.flat_parts.specs.vlog_names.Twice.{twice_name, twice_among, twice_connected, conn_entry}
+use Rattle.flat_parts.specs.vlog_hierarchy.Clock.{ports_from, plain_name, port_of_name, port_of_value, joined_as, conn_joined}
+use Rattle.flat_parts.specs.vlog_hierarchy.Clock.{conns_joined, child_joined}
+use Rattle.flat_parts.specs.vlog_meaning.Items.{read}
+use Rattle.flat_parts.specs.vlog_meaning.Settled.{ConnJoins}
 
 -- ---- tables
 

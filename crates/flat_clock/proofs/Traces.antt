@@ -2,21 +2,21 @@
 use Rattle.std.proofs.Common.{◌≡◌, ℕ, zero, suc, ◌≤◌, ◌⊎◌, inl, inr, List, [], ◌∷◌, map, length, refl, sym, ap, subst, ◌∙◌}
 use Rattle.std.proofs.Common.{arith, Option, Some, slice_get}
 use Rattle.std.specs.List.{Contains, flat_map}
-use Rattle.flat_laws.proofs.vidi_bits_lemmas.Lists.{none_in, head_in, tail_in, cases_in, in_flat, from_flat}
+use Rattle.flat_parts.proofs.vidi_bits_lemmas.Lists.{none_in, head_in, tail_in, cases_in, in_flat, from_flat}
 use Rattle.vlog_tree.specs.Tree.{InstanceOf, InstanceItem, ModuleOf}
-use Rattle.flat_laws.specs.vlog_size.Table.{Named, value_of}
-use Rattle.flat_laws.specs.vlog_size.declared.scope.Scope.{Scope}
-use Rattle.flat_laws.specs.vlog_names.Entries.{module_entry}
-use Rattle.flat_laws.specs.vlog_names.Different.{Differ}
-use Rattle.flat_laws.specs.vlog_names.Twice.{twice_connected}
-use Rattle.flat_laws.specs.vlog_hierarchy.declared.scopes.Scope as hierarchy
-use Rattle.flat_laws.specs.vlog_hierarchy.Outlines.{Child, outlines_of, children_at}
-use Rattle.flat_laws.specs.vlog_hierarchy.Clock.{scopes, child_scopes, child_joined}
-use Rattle.flat_laws.proofs.vlog_hierarchy_lemmas.Scoped.{no_deeper, deeper}
-use Rattle.flat_laws.proofs.vlog_elab_lemmas.Places.{there}
-use Rattle.flat_laws.specs.vlog_meaning.Names.{Name, Full}
-use Rattle.flat_laws.specs.vlog_meaning.Settled.{Joins}
-use Rattle.flat_laws.proofs.Lists.{long_flat, in_got}
+use Rattle.flat_parts.specs.vlog_size.Table.{Named, value_of}
+use Rattle.flat_parts.specs.vlog_size.declared.scope.Scope.{Scope}
+use Rattle.flat_parts.specs.vlog_names.Entries.{module_entry}
+use Rattle.flat_parts.specs.vlog_names.Different.{Differ}
+use Rattle.flat_parts.specs.vlog_names.Twice.{twice_connected}
+use Rattle.flat_parts.specs.vlog_hierarchy.declared.scopes.Scope as hierarchy
+use Rattle.flat_parts.specs.vlog_hierarchy.Outlines.{Child, outlines_of, children_at}
+use Rattle.flat_parts.specs.vlog_hierarchy.Clock.{scopes, child_scopes, child_joined}
+use Rattle.flat_parts.proofs.vlog_hierarchy_lemmas.Scoped.{no_deeper, deeper}
+use Rattle.flat_parts.proofs.vlog_elab_lemmas.Places.{there}
+use Rattle.flat_parts.specs.vlog_meaning.Names.{Name, Full}
+use Rattle.flat_parts.specs.vlog_meaning.Settled.{Joins}
+use Rattle.flat_parts.proofs.Lists.{long_flat, in_got}
 use Rattle.flat_clock.proofs.Tables.{Plain, plain_joined, JoinedBy, joined_by, joined_as_outer}
 use Rattle.flat_clock.proofs.Children.{IsKid, is_kid, Own, own_child, Listed, listed_child, item_in}
 

@@ -3,17 +3,17 @@
 use Rattle.std.specs.Prelude.{◌≡◌, ℕ, ◌↔◌, List, [], ◌∷◌, position, Option, None, Some, slice_get}
 use Rattle.std.specs.Str.{bytes_eq}
 use Rattle.vlog_tree.specs.Tree.{PortOf, ModuleOf, FileOf}
-use Rattle.flat_laws.specs.vlog_hierarchy.Outlines.{place_of, outlines_of}
-use Rattle.flat_laws.specs.vlog_hierarchy.Clock.{scopes_of, clock_ports, first_port}
-use Rattle.flat_laws.specs.vlog_elab.Scope.{scope_with}
-use Rattle.flat_laws.specs.vlog_elab.Instances.{ModuleInstance, instances}
-use Rattle.flat_laws.specs.vlog_elab.Clock.{clock_inputs}
-use Rattle.flat_laws.specs.vlog_elab.Reasons.{Clear}
-use Rattle.flat_laws.specs.vlog_meaning.Names.{Name}
-use Rattle.flat_laws.specs.vlog_meaning.Settled.{IsClock}
-use Rattle.flat_laws.specs.flat_parts.Nets.{flat_ports}
-use Rattle.flat_laws.specs.flat_parts.Built.{IsClockPort}
-use Rattle.flat_laws.specs.flat_parts.Laws.{IsTop}
+use Rattle.flat_parts.specs.vlog_hierarchy.Outlines.{place_of, outlines_of}
+use Rattle.flat_parts.specs.vlog_hierarchy.Clock.{scopes_of, clock_ports, first_port}
+use Rattle.flat_parts.specs.vlog_elab.Scope.{scope_with}
+use Rattle.flat_parts.specs.vlog_elab.Instances.{ModuleInstance, instances}
+use Rattle.flat_parts.specs.vlog_elab.Clock.{clock_inputs}
+use Rattle.flat_parts.specs.vlog_elab.Reasons.{Clear}
+use Rattle.flat_parts.specs.vlog_meaning.Names.{Name}
+use Rattle.flat_parts.specs.vlog_meaning.Settled.{IsClock}
+use Rattle.flat_parts.specs.Nets.{flat_ports}
+use Rattle.flat_parts.specs.Built.{IsClockPort}
+use Rattle.flat_parts.specs.Laws.{IsTop}
 
 -- the place among these 1-bit inputs of the one to which the name of the first clocked block is joined
 abbrev pub joined_input : FileOf ℕ → List ℕ → List Name → Option ℕ

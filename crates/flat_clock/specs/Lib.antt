@@ -1,2 +1,2 @@
 pub mod Clock
-pub use Rattle.flat_laws.specs as flat_laws
+pub use Rattle.flat_parts.specs as flat_parts

@@ -7,6 +7,6 @@
 mod laws;
 mod place;
 
-pub use flat_laws;
+pub use flat_parts;
 pub use laws::clock_is_joined_input;
 pub use place::clock_place;

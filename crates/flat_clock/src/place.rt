@@ -4,19 +4,19 @@ ghost use Rattle.std.specs.Prelude.{◌≡◌, ℕ, ◌↔◌, [], map, position
 ghost use Rattle.std.specs.Str.{bytes_eq};
 ghost use Rattle.vlog_tree.specs.Tree.{ModuleOf};
 ghost use Rattle.vlog_tree.specs.Plain.{plain, plain_port};
-ghost use Rattle.flat_laws.specs.vlog_hierarchy.Plain.{plain_path};
-ghost use Rattle.flat_laws.specs.vlog_elab.Scope.{scope_with};
-ghost use Rattle.flat_laws.specs.vlog_elab.Instances.{instances};
-ghost use Rattle.flat_laws.specs.vlog_elab.Plain.{plain_instances};
-ghost use Rattle.flat_laws.specs.vlog_elab.Reasons.{Clear};
-ghost use Rattle.flat_laws.specs.flat_parts.Nets.{flat_ports};
-ghost use Rattle.flat_laws.specs.flat_parts.Built.{IsClockPort};
-ghost use Rattle.flat_laws.specs.flat_parts.Laws.{IsTop};
+ghost use Rattle.flat_parts.specs.vlog_hierarchy.Plain.{plain_path};
+ghost use Rattle.flat_parts.specs.vlog_elab.Scope.{scope_with};
+ghost use Rattle.flat_parts.specs.vlog_elab.Instances.{instances};
+ghost use Rattle.flat_parts.specs.vlog_elab.Plain.{plain_instances};
+ghost use Rattle.flat_parts.specs.vlog_elab.Reasons.{Clear};
+ghost use Rattle.flat_parts.specs.Nets.{flat_ports};
+ghost use Rattle.flat_parts.specs.Built.{IsClockPort};
+ghost use Rattle.flat_parts.specs.Laws.{IsTop};
 ghost use Rattle.flat_clock.specs.Clock.{name_at, port_named, place_in};
 
-use flat_laws::vidi_bits::{Memory, Name};
-use flat_laws::vlog_elab::{ModuleInstance, clock_inputs};
-use flat_laws::vlog_hierarchy::clock_port;
+use flat_parts::vidi_bits::{Memory, Name};
+use flat_parts::vlog_elab::{ModuleInstance, clock_inputs};
+use flat_parts::vlog_hierarchy::clock_port;
 use std::alloc::Global;
 use vlog_tree::{File, Port};
 

@@ -25,7 +25,7 @@ use Rattle.flat_parts.specs.Nets.{net_of, flat_nets}
 use Rattle.flat_parts.specs.Built.{IsBuilt}
 use Rattle.flat_parts.specs.Meaning.{values_of}
 
--- ---- instances and paths (flat_laws)
+-- ---- instances and paths (this crate)
 
 -- the first module of this name
 abbrev pub IsTop : FileOf ℕ → List ℕ → ModuleOf ℕ → Type 0

@@ -7,6 +7,8 @@ pub mod Marks
 pub mod Built
 pub mod Meaning
 pub mod Laws
+pub mod Settled
+pub mod Next
 pub use Rattle.vlog_driver.specs.net_code as net_code
 pub use Rattle.vlog_driver.specs.net_drive as net_drive
 pub use Rattle.vlog_elab.specs.vidi_bits as vidi_bits

@@ -25,7 +25,7 @@ use Rattle.replay_run.specs.trace_model.Row.{row_before, flies_after, is_in_flig
 use Rattle.replay_run.proofs.trace_model_lemmas.ContentsLemmas.{fit_prop}
 use Rattle.replay_run.proofs.trace_model_lemmas.RowLemmas.{before-last}
 use Rattle.net_sim.proofs.net_order_lemmas.OneMap.{has_one_map}
-use Rattle.vlog_design.proofs.flat_laws_lemmas.Found.{no_twice}
+use Rattle.vlog_design.proofs.flat_parts_lemmas.Found.{no_twice}
 use Rattle.replay_run.specs.chan_map.declared.pins.Map.{Map}
 use Rattle.replay_run.specs.run_model.Played.{all_up}
 use Rattle.replay_run.specs.run_model.Step.{IsAfter, IsFirst, IsStep}

@@ -18,7 +18,7 @@ use Rattle.net_design.specs.Pins.{output_count as design_count, outputs, FitPins
 use Rattle.net_design.specs.Settled as design
 use Rattle.net_design.specs.Settled.{same_direction}
 use Rattle.net_sim.proofs.net_order_lemmas.OneMap.{has_one_map}
-use Rattle.vlog_design.proofs.flat_laws_lemmas.Found.{no_twice}
+use Rattle.vlog_design.proofs.flat_parts_lemmas.Found.{no_twice}
 use Rattle.replay_run.specs.trace_model.declared.row.Offers.{Offers}
 use Rattle.replay_run.specs.trace_model.declared.row.Row.{Row}
 use Rattle.replay_run.specs.trace_model.Row.{AreOffers}

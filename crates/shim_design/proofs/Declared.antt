@@ -5,23 +5,23 @@ use Rattle.std.specs.List.{flat_map, AllByRecursion, list_any}
 use Rattle.vlog_tree.specs.Tree.{IdentOf, NamedValueOf, Reg1Of, PortOf, PortHeadOf, ItemOf, WiresItem}
 use Rattle.vlog_tree.specs.Tree.{DrivenWiresItem, RegsItem, LocalparamsItem, AssignItem, AlwaysItem, InstanceItem, ModuleOf, ParameterOf}
 use Rattle.vlog_tree.specs.Tree.{EventOf, PosedgeEvent, ImplicitEvent, AlwaysOf}
-use Rattle.flat_laws.specs.vlog_size.declared.scope.ScopeNet.{ScopeNet}
-use Rattle.flat_laws.specs.vlog_size.declared.scope.Scope.{Scope}
-use Rattle.flat_laws.specs.vlog_size.declared.scope.Param.{Param}
-use Rattle.flat_laws.specs.vlog_size.Table.{Named, value_of}
-use Rattle.flat_laws.specs.vlog_size.Names.{params_alone, Readable}
-use Rattle.flat_laws.specs.vlog_names.declared.declaration.Shape.{Shape}
-use Rattle.flat_laws.specs.vlog_names.declared.declaration.Declaration.{Declaration}
-use Rattle.flat_laws.specs.vlog_names.declared.declaration.Declaration.TheVariants as d
-use Rattle.flat_laws.specs.vlog_names.Entries.{Names, entry, shape_of, port_as, no_port, port_entries, parameter_entry, item_entries, declared}
-use Rattle.flat_laws.specs.vlog_names.Entries.{ident_entry, value_entry, reg_entry}
-use Rattle.flat_laws.specs.vlog_scope.declared.extent.Extent.{Extent}
-use Rattle.flat_laws.specs.vlog_scope.declared.extent.Extent.TheVariants.{NoRange}
-use Rattle.flat_laws.specs.vlog_scope.Extents.{port_extent}
-use Rattle.flat_laws.specs.vlog_scope.Scope.{after_item}
-use Rattle.flat_laws.specs.vlog_names.Ports.{has_output, has_reg, is_output_port}
-use Rattle.flat_laws.specs.vlog_meaning.Placed.{Placed, placed, placed_items, names_at}
-use Rattle.flat_laws.specs.vlog_meaning.Settled.{is_held, item_writes}
+use Rattle.flat_parts.specs.vlog_size.declared.scope.ScopeNet.{ScopeNet}
+use Rattle.flat_parts.specs.vlog_size.declared.scope.Scope.{Scope}
+use Rattle.flat_parts.specs.vlog_size.declared.scope.Param.{Param}
+use Rattle.flat_parts.specs.vlog_size.Table.{Named, value_of}
+use Rattle.flat_parts.specs.vlog_size.Names.{params_alone, Readable}
+use Rattle.flat_parts.specs.vlog_names.declared.declaration.Shape.{Shape}
+use Rattle.flat_parts.specs.vlog_names.declared.declaration.Declaration.{Declaration}
+use Rattle.flat_parts.specs.vlog_names.declared.declaration.Declaration.TheVariants as d
+use Rattle.flat_parts.specs.vlog_names.Entries.{Names, entry, shape_of, port_as, no_port, port_entries, parameter_entry, item_entries, declared}
+use Rattle.flat_parts.specs.vlog_names.Entries.{ident_entry, value_entry, reg_entry}
+use Rattle.flat_parts.specs.vlog_scope.declared.extent.Extent.{Extent}
+use Rattle.flat_parts.specs.vlog_scope.declared.extent.Extent.TheVariants.{NoRange}
+use Rattle.flat_parts.specs.vlog_scope.Extents.{port_extent}
+use Rattle.flat_parts.specs.vlog_scope.Scope.{after_item}
+use Rattle.flat_parts.specs.vlog_names.Ports.{has_output, has_reg, is_output_port}
+use Rattle.flat_parts.specs.vlog_meaning.Placed.{Placed, placed, placed_items, names_at}
+use Rattle.flat_parts.specs.vlog_meaning.Settled.{is_held, item_writes}
 use Rattle.shim_design.specs.Plain.{net_named, extent, port_nets, item_nets, nets_of, IsPlainItem, IsPosedge, IsClockedItem}
 use Rattle.shim_design.proofs.Elements.{Has, found, Apart, has_left, has_right}
 

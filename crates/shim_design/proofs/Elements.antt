@@ -7,9 +7,9 @@ use Rattle.std.specs.Str.{bytes_eq}
 use Rattle.std.proofs.lemmas.Slice.Eq.{bytes_eq-Decides}
 use Rattle.std.proofs.lemmas.List.Elements.{recursion_from_All}
 use Rattle.std.proofs.lemmas.Bool.{lt-ltb}
-use Rattle.flat_laws.proofs.vidi_bits_lemmas.Lists.{bytes_eq-self}
-use Rattle.flat_laws.specs.vlog_size.Table.{Named, value_of, place_of}
-use Rattle.flat_laws.specs.vlog_names.Different.{Differ}
+use Rattle.flat_parts.proofs.vidi_bits_lemmas.Lists.{bytes_eq-self}
+use Rattle.flat_parts.specs.vlog_size.Table.{Named, value_of, place_of}
+use Rattle.flat_parts.specs.vlog_names.Different.{Differ}
 
 -- an element of a list
 abbrev pub Has : {X : Type 0} → List X → X → Type 0

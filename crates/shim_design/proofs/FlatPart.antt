@@ -1,8 +1,8 @@
 -- The part of a flat design below an instance.
 use Rattle.std.proofs.Common.{ℕ, List, ◌∷◌}
 use Rattle.vlog_tree.specs.Tree.{ModuleOf}
-use Rattle.flat_laws.specs.vlog_meaning.Names.{Name, Full}
-use Rattle.flat_laws.specs.flat_parts.Meaning.{AreNarrow}
+use Rattle.flat_parts.specs.vlog_meaning.Names.{Name, Full}
+use Rattle.flat_parts.specs.Meaning.{AreNarrow}
 use Rattle.shim_design.specs.Part.{under, part, pins_below, IsPart}
 use Rattle.shim_design.specs.FlatPart.{PartSettles, PartGoesOn, PartBegins}
 use Rattle.shim_design.proofs.Part.{at_part, part_is_settled, part_is_next, part_is_initial}

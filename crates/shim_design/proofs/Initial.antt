@@ -6,15 +6,15 @@ use Rattle.std.specs.List.{AllByRecursion, flat_map}
 use Rattle.std.proofs.lemmas.Nat.Bits.{same_from_bits, bit_at-zero}
 use Rattle.vlog_tree.specs.Tree.{Reg1Of, PortOf, ItemOf, WiresItem, DrivenWiresItem, RegsItem, LocalparamsItem}
 use Rattle.vlog_tree.specs.Tree.{AssignItem, AlwaysItem, InstanceItem, ModuleOf}
-use Rattle.flat_laws.specs.vlog_size.declared.scope.Param.{Param}
-use Rattle.flat_laws.specs.vlog_size.declared.scope.Scope.{Scope}
-use Rattle.flat_laws.specs.vlog_size.Names.{Readable}
-use Rattle.flat_laws.specs.vlog_size.Size.{or_zero}
-use Rattle.flat_laws.specs.vlog_size.Table.{Named, value_of}
-use Rattle.flat_laws.specs.vlog_scope.Scope.{scope_with, after_item}
-use Rattle.flat_laws.specs.vlog_meaning.Placed.{Placed, placed, placed_items, names_at}
-use Rattle.flat_laws.specs.vlog_meaning.Settled.{is_held}
-use Rattle.flat_laws.specs.vlog_meaning.Next.{port_initials, reg_initials, item_initials, initials, initial_number}
+use Rattle.flat_parts.specs.vlog_size.declared.scope.Param.{Param}
+use Rattle.flat_parts.specs.vlog_size.declared.scope.Scope.{Scope}
+use Rattle.flat_parts.specs.vlog_size.Names.{Readable}
+use Rattle.flat_parts.specs.vlog_size.Size.{or_zero}
+use Rattle.flat_parts.specs.vlog_size.Table.{Named, value_of}
+use Rattle.flat_parts.specs.vlog_scope.Scope.{scope_with, after_item}
+use Rattle.flat_parts.specs.vlog_meaning.Placed.{Placed, placed, placed_items, names_at}
+use Rattle.flat_parts.specs.vlog_meaning.Settled.{is_held}
+use Rattle.flat_parts.specs.vlog_meaning.Next.{port_initials, reg_initials, item_initials, initials, initial_number}
 use Rattle.shim_design.specs.Plain.{nets_of, HasNoInit, HasNoInits}
 use Rattle.shim_design.specs.Nets.{NetsBegin}
 use Rattle.shim_design.proofs.Elements.{Found, found, contains_has}

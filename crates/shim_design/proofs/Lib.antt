@@ -10,5 +10,5 @@ pub mod Beside
 pub mod Maps
 pub mod Initial
 pub mod Memories
-pub use Rattle.flat_laws.proofs as flat_laws_lemmas
-pub use Rattle.flat_laws.proofs.vlog_names_lemmas as vlog_names_lemmas
+pub use Rattle.flat_parts.proofs as flat_parts_lemmas
+pub use Rattle.flat_parts.proofs.vlog_names_lemmas as vlog_names_lemmas

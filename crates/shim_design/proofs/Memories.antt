@@ -6,30 +6,30 @@ use Rattle.std.specs.Str.{bytes_eq}
 use Rattle.std.proofs.lemmas.List.{same_from_push, map-append}
 use Rattle.std.proofs.lemmas.List.Elements.{All-from_recursion, recursion_from_All}
 use Rattle.std.proofs.lemmas.Slice.Eq.{bytes_eq-Decides}
-use Rattle.flat_laws.proofs.vidi_bits_lemmas.Each.{each_weaker, each_append}
+use Rattle.flat_parts.proofs.vidi_bits_lemmas.Each.{each_weaker, each_append}
 use Rattle.vlog_tree.specs.Tree.{RegTailOf, InitTail, MemoryTail, Reg1Of, PortOf, ItemOf, WiresItem, DrivenWiresItem, RegsItem, LocalparamsItem}
 use Rattle.vlog_tree.specs.Tree.{AssignItem, AlwaysItem, InstanceItem, ModuleOf}
-use Rattle.flat_laws.specs.vlog_size.declared.scope.ScopeMemory.{ScopeMemory}
-use Rattle.flat_laws.specs.vlog_size.declared.scope.Scope.{Scope}
-use Rattle.flat_laws.specs.vlog_size.Size.{Sizes}
-use Rattle.flat_laws.specs.vlog_size.Table.{Named, value_of}
-use Rattle.flat_laws.specs.vlog_scope.declared.extent.Extent.{Extent}
-use Rattle.flat_laws.specs.vlog_scope.declared.extent.Extent.TheVariants.{NoRange}
-use Rattle.flat_laws.specs.vlog_scope.Extents.{extent_of, port_extent, net_width, memory_length, or_most}
-use Rattle.flat_laws.specs.vlog_scope.Params.{header_params, items_params, overrides_of}
-use Rattle.flat_laws.specs.vlog_scope.Scope.{declared_in, readable_at, with_port, with_ports, with_memory, with_reg, with_regs, with_item, with_items}
-use Rattle.flat_laws.specs.vlog_scope.Scope.{params_scope, scope_with, words_of}
+use Rattle.flat_parts.specs.vlog_size.declared.scope.ScopeMemory.{ScopeMemory}
+use Rattle.flat_parts.specs.vlog_size.declared.scope.Scope.{Scope}
+use Rattle.flat_parts.specs.vlog_size.Size.{Sizes}
+use Rattle.flat_parts.specs.vlog_size.Table.{Named, value_of}
+use Rattle.flat_parts.specs.vlog_scope.declared.extent.Extent.{Extent}
+use Rattle.flat_parts.specs.vlog_scope.declared.extent.Extent.TheVariants.{NoRange}
+use Rattle.flat_parts.specs.vlog_scope.Extents.{extent_of, port_extent, net_width, memory_length, or_most}
+use Rattle.flat_parts.specs.vlog_scope.Params.{header_params, items_params, overrides_of}
+use Rattle.flat_parts.specs.vlog_scope.Scope.{declared_in, readable_at, with_port, with_ports, with_memory, with_reg, with_regs, with_item, with_items}
+use Rattle.flat_parts.specs.vlog_scope.Scope.{params_scope, scope_with, words_of}
 use Rattle.net_design.specs.declared.design.DesignMemory.{DesignMemory}
 use Rattle.net_design.specs.declared.design.Design.{Design}
 use Rattle.net_design.specs.Names.{list_at}
-use Rattle.flat_laws.specs.vlog_elab.Instances.{ModuleInstance, instances}
-use Rattle.flat_laws.specs.vlog_meaning.Names.{Full}
-use Rattle.flat_laws.specs.vlog_meaning.Instances.{Leads}
-use Rattle.flat_laws.specs.flat_parts.Instances.{HasOtherPath}
-use Rattle.flat_laws.specs.flat_parts.Seats.{seats_from, seats_of}
-use Rattle.flat_laws.specs.flat_parts.Nets.{memories_from, seat_memories, flat_memories}
-use Rattle.flat_laws.specs.flat_parts.Built.{IsBuilt}
-use Rattle.flat_laws.proofs.Listed.{instances_are_all, paths_differ}
+use Rattle.flat_parts.specs.vlog_elab.Instances.{ModuleInstance, instances}
+use Rattle.flat_parts.specs.vlog_meaning.Names.{Full}
+use Rattle.flat_parts.specs.vlog_meaning.Instances.{Leads}
+use Rattle.flat_parts.specs.Instances.{HasOtherPath}
+use Rattle.flat_parts.specs.Seats.{seats_from, seats_of}
+use Rattle.flat_parts.specs.Nets.{memories_from, seat_memories, flat_memories}
+use Rattle.flat_parts.specs.Built.{IsBuilt}
+use Rattle.flat_parts.proofs.Listed.{instances_are_all, paths_differ}
 use Rattle.shim_design.specs.Maps.{memory_names, MemoriesDiffer}
 use Rattle.shim_design.proofs.Elements.{Apart, Distinct, all_members, has_contains}
 

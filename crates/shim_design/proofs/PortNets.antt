@@ -4,27 +4,27 @@ use Rattle.std.proofs.Common.{Option, None, Some, is_some, refl, sym, ap, ◌∙
 use Rattle.std.specs.List.{flat_map, AllByRecursion, position_or_len}
 use Rattle.std.specs.Str.{bytes_eq}
 use Rattle.std.proofs.lemmas.List.{length-map}
-use Rattle.flat_laws.proofs.vidi_bits_lemmas.Lists.{bytes_eq-self}
+use Rattle.flat_parts.proofs.vidi_bits_lemmas.Lists.{bytes_eq-self}
 use Rattle.vlog_tree.specs.Tree.{NamedValueOf, RegTailOf, InitTail, MemoryTail, Reg1Of, PortOf, ItemOf, WiresItem, ParameterOf}
 use Rattle.vlog_tree.specs.Tree.{DrivenWiresItem, RegsItem, LocalparamsItem, AssignItem, AlwaysItem, InstanceItem, ModuleOf}
-use Rattle.flat_laws.specs.vlog_size.declared.scope.Param.{Param}
-use Rattle.flat_laws.specs.vlog_size.declared.scope.ScopeNet.{ScopeNet}
-use Rattle.flat_laws.specs.vlog_size.declared.scope.Scope.{Scope}
-use Rattle.flat_laws.specs.vlog_size.Table.{Named, value_of, place_of, added}
-use Rattle.flat_laws.specs.vlog_size.Size.{Sizes}
-use Rattle.flat_laws.specs.vlog_size.Names.{params_alone}
-use Rattle.flat_laws.specs.vlog_names.declared.declaration.Declaration.{Declaration}
-use Rattle.flat_laws.specs.vlog_names.declared.declaration.Declaration.TheVariants as d
-use Rattle.flat_laws.specs.vlog_names.Entries.{Names, no_port, port_entries, parameter_entry, item_entries, header_entries, declared, value_entry}
-use Rattle.flat_laws.specs.vlog_scope.declared.extent.Extent.{Extent}
-use Rattle.flat_laws.specs.vlog_scope.declared.extent.Extent.TheVariants.{NoRange}
-use Rattle.flat_laws.specs.vlog_scope.Extents.{extent_of, port_extent, parameter_extent, constant_sizes}
-use Rattle.flat_laws.specs.vlog_scope.Params.{with_param, given_or, header_params, local_params, item_params, items_params}
-use Rattle.flat_laws.specs.vlog_scope.Scope.{with_ports, with_port, with_item, with_items, with_regs, with_reg, scope_with, declared_in}
-use Rattle.flat_laws.specs.vlog_scope.Scope.{params_scope}
-use Rattle.flat_laws.specs.vlog_meaning.Names.{Name, Full, numbers_at}
-use Rattle.flat_laws.specs.vlog_meaning.Placed.{names_at}
-use Rattle.flat_laws.specs.vlog_meaning.Next.{net_width}
+use Rattle.flat_parts.specs.vlog_size.declared.scope.Param.{Param}
+use Rattle.flat_parts.specs.vlog_size.declared.scope.ScopeNet.{ScopeNet}
+use Rattle.flat_parts.specs.vlog_size.declared.scope.Scope.{Scope}
+use Rattle.flat_parts.specs.vlog_size.Table.{Named, value_of, place_of, added}
+use Rattle.flat_parts.specs.vlog_size.Size.{Sizes}
+use Rattle.flat_parts.specs.vlog_size.Names.{params_alone}
+use Rattle.flat_parts.specs.vlog_names.declared.declaration.Declaration.{Declaration}
+use Rattle.flat_parts.specs.vlog_names.declared.declaration.Declaration.TheVariants as d
+use Rattle.flat_parts.specs.vlog_names.Entries.{Names, no_port, port_entries, parameter_entry, item_entries, header_entries, declared, value_entry}
+use Rattle.flat_parts.specs.vlog_scope.declared.extent.Extent.{Extent}
+use Rattle.flat_parts.specs.vlog_scope.declared.extent.Extent.TheVariants.{NoRange}
+use Rattle.flat_parts.specs.vlog_scope.Extents.{extent_of, port_extent, parameter_extent, constant_sizes}
+use Rattle.flat_parts.specs.vlog_scope.Params.{with_param, given_or, header_params, local_params, item_params, items_params}
+use Rattle.flat_parts.specs.vlog_scope.Scope.{with_ports, with_port, with_item, with_items, with_regs, with_reg, scope_with, declared_in}
+use Rattle.flat_parts.specs.vlog_scope.Scope.{params_scope}
+use Rattle.flat_parts.specs.vlog_meaning.Names.{Name, Full, numbers_at}
+use Rattle.flat_parts.specs.vlog_meaning.Placed.{names_at}
+use Rattle.flat_parts.specs.vlog_meaning.Next.{net_width}
 use Rattle.shim_design.specs.Nets.{IsNet}
 use Rattle.shim_design.proofs.Elements.{Has, Found, found, at_member, other_name, all_members, has_map, has_flat, has_left, has_right, in_slice}
 use Rattle.shim_design.proofs.Elements.{place_some, Apart, apart_front, apart_back, apart_sides}

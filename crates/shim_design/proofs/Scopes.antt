@@ -5,17 +5,17 @@ use Rattle.std.specs.List.{flat_map, AllByRecursion}
 use Rattle.std.specs.Str.{bytes_eq}
 use Rattle.vlog_tree.specs.Tree.{IdentOf, NamedValueOf, RegTailOf, InitTail, MemoryTail, Reg1Of, PortOf, ItemOf, WiresItem, ParameterOf}
 use Rattle.vlog_tree.specs.Tree.{DrivenWiresItem, RegsItem, LocalparamsItem, AssignItem, AlwaysItem, InstanceItem, ModuleOf}
-use Rattle.flat_laws.specs.vlog_size.declared.scope.Param.{Param}
-use Rattle.flat_laws.specs.vlog_size.declared.scope.ScopeNet.{ScopeNet}
-use Rattle.flat_laws.specs.vlog_size.declared.scope.ScopeMemory.{ScopeMemory}
-use Rattle.flat_laws.specs.vlog_size.declared.scope.Scope.{Scope}
-use Rattle.flat_laws.specs.vlog_size.Table.{Named, value_of, added}
-use Rattle.flat_laws.specs.vlog_scope.declared.extent.Extent.{Extent}
-use Rattle.flat_laws.specs.vlog_scope.declared.extent.Extent.TheVariants.{NoRange}
-use Rattle.flat_laws.specs.vlog_scope.Extents.{port_extent}
-use Rattle.flat_laws.specs.vlog_size.Names.{params_alone}
-use Rattle.flat_laws.specs.vlog_scope.Params.{items_params, header_params}
-use Rattle.flat_laws.specs.vlog_scope.Scope.{with_ports, wire_nets, driven_nets, with_regs, with_reg, with_item, with_items, scope_with, with_net, scope_after, with_places}
+use Rattle.flat_parts.specs.vlog_size.declared.scope.Param.{Param}
+use Rattle.flat_parts.specs.vlog_size.declared.scope.ScopeNet.{ScopeNet}
+use Rattle.flat_parts.specs.vlog_size.declared.scope.ScopeMemory.{ScopeMemory}
+use Rattle.flat_parts.specs.vlog_size.declared.scope.Scope.{Scope}
+use Rattle.flat_parts.specs.vlog_size.Table.{Named, value_of, added}
+use Rattle.flat_parts.specs.vlog_scope.declared.extent.Extent.{Extent}
+use Rattle.flat_parts.specs.vlog_scope.declared.extent.Extent.TheVariants.{NoRange}
+use Rattle.flat_parts.specs.vlog_scope.Extents.{port_extent}
+use Rattle.flat_parts.specs.vlog_size.Names.{params_alone}
+use Rattle.flat_parts.specs.vlog_scope.Params.{items_params, header_params}
+use Rattle.flat_parts.specs.vlog_scope.Scope.{with_ports, wire_nets, driven_nets, with_regs, with_reg, with_item, with_items, scope_with, with_net, scope_after, with_places}
 use Rattle.shim_design.specs.Plain.{net_named, extent, port_nets, item_nets, nets_of, IsPlainTail, IsPlainReg, IsPlainItem}
 use Rattle.shim_design.proofs.Elements.{Has, at_member, other_name, Apart}
 

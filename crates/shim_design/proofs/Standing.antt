@@ -9,24 +9,24 @@ use Rattle.std.proofs.lemmas.Nat.Bits.{bit_at_cat_low, same_from_bits_below}
 use Rattle.std.proofs.lemmas.Option.{get_or_from_slice_get}
 use Rattle.vlog_tree.specs.Tree.{PortOf, PortHeadOf, ConnOf, InstanceOf, ItemOf, WiresItem, DrivenWiresItem, RegsItem, LocalparamsItem}
 use Rattle.vlog_tree.specs.Tree.{AssignItem, AlwaysItem, InstanceItem, ModuleOf}
-use Rattle.flat_laws.specs.vlog_size.declared.scope.ScopeNet.{ScopeNet}
-use Rattle.flat_laws.specs.vlog_size.declared.scope.Scope.{Scope}
-use Rattle.flat_laws.specs.vlog_size.Names.{Readable, params_alone}
-use Rattle.flat_laws.specs.vlog_size.Table.{Named}
-use Rattle.flat_laws.specs.vlog_names.Entries.{declared}
-use Rattle.flat_laws.specs.vlog_names.Ports.{has_reg}
-use Rattle.flat_laws.specs.vlog_scope.declared.extent.Extent.{Extent}
-use Rattle.flat_laws.specs.vlog_scope.declared.extent.Extent.TheVariants.{NoRange}
-use Rattle.flat_laws.specs.vlog_scope.Extents.{port_extent}
-use Rattle.flat_laws.specs.vlog_scope.Scope.{scope_with, scope_of, readable_at, after_item}
+use Rattle.flat_parts.specs.vlog_size.declared.scope.ScopeNet.{ScopeNet}
+use Rattle.flat_parts.specs.vlog_size.declared.scope.Scope.{Scope}
+use Rattle.flat_parts.specs.vlog_size.Names.{Readable, params_alone}
+use Rattle.flat_parts.specs.vlog_size.Table.{Named}
+use Rattle.flat_parts.specs.vlog_names.Entries.{declared}
+use Rattle.flat_parts.specs.vlog_names.Ports.{has_reg}
+use Rattle.flat_parts.specs.vlog_scope.declared.extent.Extent.{Extent}
+use Rattle.flat_parts.specs.vlog_scope.declared.extent.Extent.TheVariants.{NoRange}
+use Rattle.flat_parts.specs.vlog_scope.Extents.{port_extent}
+use Rattle.flat_parts.specs.vlog_scope.Scope.{scope_with, scope_of, readable_at, after_item}
 use Rattle.net_design.specs.declared.values.Values.{Values}
 use Rattle.net_design.specs.Updates.{apply}
-use Rattle.flat_laws.specs.vlog_meaning.Names.{Full, State, numbers_at}
-use Rattle.flat_laws.specs.vlog_meaning.Placed.{placed, placed_items, names_at}
-use Rattle.flat_laws.specs.vlog_meaning.Instances.{IsChild, IsAt}
-use Rattle.flat_laws.specs.vlog_meaning.Items.{ItemHolds, HoldsAt}
-use Rattle.flat_laws.specs.vlog_meaning.Settled.{IsSettled}
-use Rattle.flat_laws.specs.vlog_meaning.Next.{IsNext, clocked_updates}
+use Rattle.flat_parts.specs.vlog_meaning.Names.{Full, State, numbers_at}
+use Rattle.flat_parts.specs.vlog_meaning.Placed.{placed, placed_items, names_at}
+use Rattle.flat_parts.specs.vlog_meaning.Instances.{IsChild, IsAt}
+use Rattle.flat_parts.specs.vlog_meaning.Items.{ItemHolds, HoldsAt}
+use Rattle.flat_parts.specs.vlog_meaning.Settled.{IsSettled}
+use Rattle.flat_parts.specs.vlog_meaning.Next.{IsNext, clocked_updates}
 use Rattle.shim_design.specs.Plain.{net_named, extent, port_nets, item_nets, nets_of, IsPlain, IsPlainItem, IsClockedItem}
 use Rattle.shim_design.specs.Nets.{IsNet, NetsStand, RegsAreHeld}
 use Rattle.shim_design.proofs.Elements.{Has, Found, found, at_member, has_left, has_right, has_contains, contains_has, place_some, Apart, apart_from}

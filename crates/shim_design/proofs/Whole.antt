@@ -10,20 +10,20 @@ use Rattle.net_design.specs.Updates.{part_updates}
 use Rattle.std.proofs.lemmas.Nat.Bits.{same_from_bits_below}
 use Rattle.std.proofs.lemmas.Bool.Decides.{nat_tests}
 use Rattle.vlog_tree.specs.Tree.{IdentOf, ExprOf, NoLast}
-use Rattle.flat_laws.specs.vlog_size.declared.names.Meaning.{Meaning}
-use Rattle.flat_laws.specs.vlog_size.declared.names.Meaning.TheVariants.{Place}
-use Rattle.flat_laws.specs.vlog_size.Names.{Readable, meaning_of}
-use Rattle.flat_laws.specs.vlog_size.Size.{of_ref, NoBracket}
+use Rattle.flat_parts.specs.vlog_size.declared.names.Meaning.{Meaning}
+use Rattle.flat_parts.specs.vlog_size.declared.names.Meaning.TheVariants.{Place}
+use Rattle.flat_parts.specs.vlog_size.Names.{Readable, meaning_of}
+use Rattle.flat_parts.specs.vlog_size.Size.{of_ref, NoBracket}
 use Rattle.net_design.specs.declared.values.Values.{Values}
 use Rattle.net_design.specs.declared.values.Target.TheVariants as targets
 use Rattle.net_design.specs.Last.{HasLast, last_bit}
-use Rattle.flat_laws.specs.vlog_block.declared.source.Source.{Source}
-use Rattle.flat_laws.specs.vlog_block.declared.source.Source.TheVariants.{Net}
-use Rattle.flat_laws.specs.vlog_block.Sources.{source_of}
-use Rattle.flat_laws.specs.vlog_block.Value.{value, width_of, source_number}
-use Rattle.flat_laws.specs.vlog_block.Targets.{target_width, source_updates}
-use Rattle.flat_laws.specs.vlog_names.Ports.{has_output}
-use Rattle.flat_laws.specs.vlog_meaning.Items.{IsAssigned, JoinHolds, ConnHolds, whole, read}
+use Rattle.flat_parts.specs.vlog_block.declared.source.Source.{Source}
+use Rattle.flat_parts.specs.vlog_block.declared.source.Source.TheVariants.{Net}
+use Rattle.flat_parts.specs.vlog_block.Sources.{source_of}
+use Rattle.flat_parts.specs.vlog_block.Value.{value, width_of, source_number}
+use Rattle.flat_parts.specs.vlog_block.Targets.{target_width, source_updates}
+use Rattle.flat_parts.specs.vlog_names.Ports.{has_output}
+use Rattle.flat_parts.specs.vlog_meaning.Items.{IsAssigned, JoinHolds, ConnHolds, whole, read}
 use Rattle.shim_design.proofs.Elements.{at_member, contains_has}
 use Rattle.shim_design.specs.Nets.{IsNet, NetIsRead, NetIsAssigned, NetsAreJoined}
 

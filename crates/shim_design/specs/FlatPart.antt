@@ -3,9 +3,9 @@ use Rattle.std.specs.Prelude.{◌≡◌, ℕ, List, [], ◌∷◌}
 use Rattle.vlog_tree.specs.Tree.{ModuleOf}
 use Rattle.net_design.specs.declared.design.Design.{Design}
 use Rattle.net_design.specs.Settled as design
-use Rattle.flat_laws.specs.vlog_meaning.Names.{Name, Full, State}
-use Rattle.flat_laws.specs.vlog_meaning.Settled.{IsClock}
-use Rattle.flat_laws.specs.flat_parts.Meaning.{values_of, state_of, AreNarrow, Means}
+use Rattle.flat_parts.specs.vlog_meaning.Names.{Name, Full, State}
+use Rattle.flat_parts.specs.vlog_meaning.Settled.{IsClock}
+use Rattle.flat_parts.specs.Meaning.{values_of, state_of, AreNarrow, Means}
 use Rattle.shim_design.specs.Part.{under, part, pins_below, IsPart}
 
 -- `whole` means a file with this top, in which module m of the other file, which d means, is the instance x

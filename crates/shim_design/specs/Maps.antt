@@ -7,12 +7,12 @@ use Rattle.net_design.specs.declared.values.Values.{Values}
 use Rattle.net_design.specs.Names.{net_names, list_at, paths}
 use Rattle.net_design.specs.Settled.{word_count}
 use Rattle.vlog_tree.specs.Tree.{ModuleOf, FileOf}
-use Rattle.flat_laws.specs.vlog_elab.Instances.{instances}
-use Rattle.flat_laws.specs.vlog_elab.Reasons.{Clear}
-use Rattle.flat_laws.specs.vlog_meaning.Names.{Full}
-use Rattle.flat_laws.specs.flat_parts.Built.{IsBuilt}
-use Rattle.flat_laws.specs.flat_parts.Laws.{IsTop}
-use Rattle.flat_laws.specs.flat_parts.Meaning.{values_of}
+use Rattle.flat_parts.specs.vlog_elab.Instances.{instances}
+use Rattle.flat_parts.specs.vlog_elab.Reasons.{Clear}
+use Rattle.flat_parts.specs.vlog_meaning.Names.{Full}
+use Rattle.flat_parts.specs.Built.{IsBuilt}
+use Rattle.flat_parts.specs.Laws.{IsTop}
+use Rattle.flat_parts.specs.Meaning.{values_of}
 
 -- the full name of each memory
 abbrev pub memory_names : Design → List Full

@@ -2,19 +2,19 @@
 use Rattle.std.specs.Prelude.{◌≡◌, ℕ, ◌<◌, ◌≤◌, ◌^◌, ◌%◌, max, true, List, [], ◌∷◌, ◌++◌, length, slice_index, None, Some}
 use Rattle.std.specs.List.{Contains, AllByRecursion}
 use Rattle.vlog_tree.specs.Tree.{IdentOf, ExprOf, ConnOf, InstanceOf, ModuleOf}
-use Rattle.flat_laws.specs.vlog_size.declared.scope.ScopeNet.{ScopeNet}
-use Rattle.flat_laws.specs.vlog_size.Names.{Readable}
-use Rattle.flat_laws.specs.vlog_size.Table.{Named, value_of, place_of}
-use Rattle.flat_laws.specs.vlog_names.Ports.{has_reg}
-use Rattle.flat_laws.specs.vlog_scope.Scope.{scope_with}
+use Rattle.flat_parts.specs.vlog_size.declared.scope.ScopeNet.{ScopeNet}
+use Rattle.flat_parts.specs.vlog_size.Names.{Readable}
+use Rattle.flat_parts.specs.vlog_size.Table.{Named, value_of, place_of}
+use Rattle.flat_parts.specs.vlog_names.Ports.{has_reg}
+use Rattle.flat_parts.specs.vlog_scope.Scope.{scope_with}
 use Rattle.net_design.specs.declared.values.Values.{Values}
-use Rattle.flat_laws.specs.vlog_block.Value.{value, width_of}
-use Rattle.flat_laws.specs.vlog_meaning.Names.{Full, State, numbers_at}
-use Rattle.flat_laws.specs.vlog_meaning.Placed.{names_at}
-use Rattle.flat_laws.specs.vlog_meaning.Instances.{IsAt}
-use Rattle.flat_laws.specs.vlog_meaning.Items.{IsAssigned, ConnsHold, whole, read}
-use Rattle.flat_laws.specs.vlog_meaning.Settled.{IsSettled}
-use Rattle.flat_laws.specs.vlog_meaning.Next.{IsInitial}
+use Rattle.flat_parts.specs.vlog_block.Value.{value, width_of}
+use Rattle.flat_parts.specs.vlog_meaning.Names.{Full, State, numbers_at}
+use Rattle.flat_parts.specs.vlog_meaning.Placed.{names_at}
+use Rattle.flat_parts.specs.vlog_meaning.Instances.{IsAt}
+use Rattle.flat_parts.specs.vlog_meaning.Items.{IsAssigned, ConnsHold, whole, read}
+use Rattle.flat_parts.specs.vlog_meaning.Settled.{IsSettled}
+use Rattle.flat_parts.specs.vlog_meaning.Next.{IsInitial}
 use Rattle.shim_design.specs.Plain.{nets_of, IsPlain, IsClockedItem, HasNoInits}
 
 -- the name is a net of w bits that has the number x in v

@@ -3,14 +3,14 @@ use Rattle.std.specs.Prelude.{ℕ, List, [], ◌∷◌, ◌++◌, map, Option, N
 use Rattle.std.specs.List.{flat_map, AllByRecursion}
 use Rattle.vlog_tree.specs.Tree.{IdentOf, RangeOf, NamedValueOf, RegTailOf, InitTail, MemoryTail, Reg1Of, PortOf, EventOf, PosedgeEvent}
 use Rattle.vlog_tree.specs.Tree.{ImplicitEvent, ItemOf, WiresItem, DrivenWiresItem, RegsItem, LocalparamsItem, AlwaysItem, ModuleOf}
-use Rattle.flat_laws.specs.vlog_size.declared.scope.ScopeNet.{ScopeNet}
-use Rattle.flat_laws.specs.vlog_size.Table.{Named}
-use Rattle.flat_laws.specs.vlog_size.Names.{params_alone}
-use Rattle.flat_laws.specs.vlog_names.Entries.{declared}
-use Rattle.flat_laws.specs.vlog_names.Different.{Differ}
-use Rattle.flat_laws.specs.vlog_scope.declared.extent.Extent.{Extent}
-use Rattle.flat_laws.specs.vlog_scope.declared.extent.Extent.TheVariants.{NoRange}
-use Rattle.flat_laws.specs.vlog_scope.Extents.{extent_of, port_extent, net_width}
+use Rattle.flat_parts.specs.vlog_size.declared.scope.ScopeNet.{ScopeNet}
+use Rattle.flat_parts.specs.vlog_size.Table.{Named}
+use Rattle.flat_parts.specs.vlog_size.Names.{params_alone}
+use Rattle.flat_parts.specs.vlog_names.Entries.{declared}
+use Rattle.flat_parts.specs.vlog_names.Different.{Differ}
+use Rattle.flat_parts.specs.vlog_scope.declared.extent.Extent.{Extent}
+use Rattle.flat_parts.specs.vlog_scope.declared.extent.Extent.TheVariants.{NoRange}
+use Rattle.flat_parts.specs.vlog_scope.Extents.{extent_of, port_extent, net_width}
 
 abbrev pub net_named : List ℕ → Extent → Named ScopeNet
 net_named name x = record { name = name; value = record { width = net_width x } }

@@ -18,7 +18,7 @@ use Rattle.shim_design.specs.vlog_meaning.Instances.{IsAt}
 use Rattle.shim_design.specs.vlog_meaning.Settled.{IsSettled}
 use Rattle.shim_design.specs.vlog_meaning.Next.{net_width}
 use Rattle.shim_design.specs.flat_parts.Nets.{flat_ports, port_of}
-use Rattle.shim_design.proofs.flat_laws_lemmas.Ports.{ports_first}
+use Rattle.shim_design.proofs.flat_parts_lemmas.Ports.{ports_first}
 use Rattle.shim_trees.specs.Pieces.{Name, ident, net, conn}
 use Rattle.shim_trees.specs.Links.{dut, dut_conn}
 use Rattle.shim_design.specs.Plain.{IsPlain}

@@ -39,7 +39,7 @@ use Rattle.chan_replayer.specs.run_model.MapOf.{IsMapOf}
 use Rattle.chan_replayer.specs.run_model.Pins.{pin_number, shown_number, reset_input, tie_input, plug_inputs, inputs_from, entered, ArePins}
 use Rattle.chan_replayer.proofs.run_model_lemmas.PinLemmas.{pin-at, ways, input-count, stands, are-pins, all-at}
 use Rattle.net_order.proofs.vidi_bits_lemmas.Each.{each_append}
-use Rattle.shim_design.proofs.flat_laws_lemmas.Ports.{pins_are, port_number}
+use Rattle.shim_design.proofs.flat_parts_lemmas.Ports.{pins_are, port_number}
 use Rattle.shim_trees.specs.Pieces.{Name}
 use Rattle.shim_design.specs.Part.{pins_below}
 use Rattle.shim_design.proofs.Elements.{Mapped, mapped, get_map}

@@ -32,7 +32,7 @@ use Rattle.chan_replayer.specs.chan_map.declared.pins.Tie.{Tie}
 use Rattle.chan_replayer.specs.chan_map.Bound.{IsPin, IsTie}
 use Rattle.chan_replayer.specs.run_model.Pins.{reset_input}
 use Rattle.chan_replayer.proofs.run_model_lemmas.RowParts.{channel-at}
-use Rattle.shim_design.proofs.flat_laws_lemmas.Ports.{inputs_placed}
+use Rattle.shim_design.proofs.flat_parts_lemmas.Ports.{inputs_placed}
 use Rattle.shim_trees.specs.Pieces.{input}
 use Rattle.shim_trees.specs.Links.{link, tied, tied_link, links, held, tied_input, tied_port, tied_ports, reset_width, tie_width}
 use Rattle.shim_design.specs.Part.{under, part, pins_below, IsPart}

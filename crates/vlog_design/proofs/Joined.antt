@@ -18,9 +18,9 @@ use Rattle.flat_drive.specs.flat_parts.Drivers.{ClockedBlock, IsBlockOf, all_dut
 use Rattle.flat_drive.specs.flat_parts.Built.{IsBuilt}
 use Rattle.flat_drive.specs.flat_parts.Laws.{IsTop, InstancesAreAll, PathsDiffer, FirstIsTop, BuiltNumbers, SeatsStand, NetsHaveSeats}
 use Rattle.flat_drive.specs.flat_parts.Laws.{NetsHaveOneSeat, NetsAreThose, NamesDiffer, HeldAlike, InitialAlike}
-use Rattle.flat_clock.specs.flat_laws.Settled.{SettledByLaws}
-use Rattle.flat_clock.proofs.flat_laws_lemmas.SettledLists.{all_each}
-use Rattle.flat_clock.specs.flat_laws.Next.{NextAlike, InitialStateAlike}
+use Rattle.flat_clock.specs.flat_parts.Settled.{SettledByLaws}
+use Rattle.flat_clock.proofs.flat_parts_lemmas.SettledLists.{all_each}
+use Rattle.flat_clock.specs.flat_parts.Next.{NextAlike, InitialStateAlike}
 use Rattle.vlog_design.specs.Design.{IsDesignOf}
 use Rattle.vlog_design.specs.Parts.{HasTop}
 

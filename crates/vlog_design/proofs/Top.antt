@@ -11,7 +11,7 @@ use Rattle.flat_drive.specs.vlog_names.Entries.{declared, module_entry, modules_
 use Rattle.flat_drive.specs.vlog_names.Twice.{twice_names}
 use Rattle.flat_drive.specs.vlog_names.Unknown.{unknown_module, unknown_top, unknown_names}
 use Rattle.flat_drive.specs.vlog_hierarchy.Outlines.{place_from}
-use Rattle.flat_clock.proofs.flat_laws_lemmas.Found.{no_names}
+use Rattle.flat_clock.proofs.flat_parts_lemmas.Found.{no_names}
 use Rattle.flat_drive.specs.vlog_elab.Scope.{scope_with}
 use Rattle.flat_drive.specs.vlog_elab.Instances.{ModuleInstance, instances}
 use Rattle.flat_drive.specs.vlog_elab.Reasons as elab

@@ -15,7 +15,7 @@ ghost use Rattle.vlog_design.specs.Parts.{AreParts, FirstPorts, HasTop};
 
 use crate::code::Checked;
 use flat_clock::clock_place;
-use flat_clock::flat_laws::{instances_are_paths, settled_alike, state_alike};
+use flat_clock::flat_parts::{instances_are_paths, settled_alike, state_alike};
 use flat_drive::vlog_elab::ModuleInstance;
 use flat_drive::vlog_names::ModuleTable;
 use flat_layout::{built_numbers, instances, names_differ, nets_have_seats, ports, seats_stand};

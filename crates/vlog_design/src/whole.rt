@@ -14,7 +14,7 @@ ghost use Rattle.vlog_design.specs.Reasons.{Refused, Clear, code_findings};
 
 use crate::code::checked_code;
 use crate::design::design_of;
-use flat_clock::flat_laws::instances_are_paths;
+use flat_clock::flat_parts::instances_are_paths;
 use flat_drive::vlog_elab::{ElabError, ModuleInstance, instances_of};
 use flat_drive::vlog_names::ModuleTable;
 use flat_drivers::{instances_are_declared, instances_are_faultless};

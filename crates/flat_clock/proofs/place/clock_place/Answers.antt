@@ -1,8 +1,8 @@
 use Rattle.std.proofs.Common.{rules, ◌≡◌}
 use Rattle.vlog_tree.specs.Plain.{plain}
-use Rattle.flat_laws.specs.vlog_hierarchy.Plain.{plain_path}
-use Rattle.flat_laws.specs.vlog_elab.Plain.{plain_instances}
-use Rattle.flat_laws.specs.vlog_elab.Clock.{clock_inputs}
+use Rattle.flat_parts.specs.vlog_hierarchy.Plain.{plain_path}
+use Rattle.flat_parts.specs.vlog_elab.Plain.{plain_instances}
+use Rattle.flat_parts.specs.vlog_elab.Clock.{clock_inputs}
 use Rattle.flat_clock.specs.Clock.{name_at, place_in}
 use Rattle.flat_clock.proofs.Placed.{placed_clock}
 use Rattle.flat_clock.proofs.place.clock_place.Goals as goal
