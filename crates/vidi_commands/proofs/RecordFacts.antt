@@ -14,13 +14,15 @@ recorded-starts : (channels : List Channel) (rows : List Row) (stop : Option ℕ
 recorded-starts channels rows None status text said is = subst StartsNone said.0 is
 recorded-starts channels rows (Some c) status text said is = subst StartsNone said.0 is
 
-records-once : (design map script stalls trace : List ℕ) (files : Option Files) (F : List ℕ → Type 0) (P : Bool → Type 0) (status : Status) (text : List ℕ) (left : Option Files)
+records-once : (design map script stalls trace : List ℕ) (files : Option Files) (F : List ℕ → Type 0)
+    (P : Bool → Type 0) (status : Status) (text : List ℕ) (left : Option Files)
     → Records design map script stalls trace files F P status text left → Once P
 records-once design map script stalls trace files F P status text left (inl (u, (same, none))) = (false, none)
 records-once design map script stalls trace files F P status text left
     (inr (b, plan, planned, (rows, stop, (run, held, (once, is, told)), said))) = (once, is)
 
-records-none : (design map script stalls trace : List ℕ) (files : Option Files) (F : List ℕ → Type 0) (P : Bool → Type 0) (status : Status) (text : List ℕ) (left : Option Files)
+records-none : (design map script stalls trace : List ℕ) (files : Option Files) (F : List ℕ → Type 0)
+    (P : Bool → Type 0) (status : Status) (text : List ℕ) (left : Option Files)
     → Records design map script stalls trace files F P status text left → StartsNone status → P false
 records-none design map script stalls trace files F P status text left (inl (u, (same, none))) is = none
 records-none design map script stalls trace files F P status text left (inr (b, plan, planned, (rows, stop, leaves, said))) is =

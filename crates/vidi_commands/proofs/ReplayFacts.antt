@@ -23,12 +23,14 @@ replayed-starts t u n (outcomes.Ended cycles) status text said is = verdict-star
 replayed-starts t u n (outcomes.Short helds events) status text said is = subst StartsNone said.0 is
 replayed-starts t u n (outcomes.Unstable channel cycle) status text said is = subst StartsNone said.0 is
 
-replays-once : (design map trace : List ℕ) (n : ℕ) (out : List ℕ) (files : Option Files) (F : List ℕ → Type 0) (P : Bool → Type 0) (status : Status) (text : List ℕ) (left : Option Files)
+replays-once : (design map trace : List ℕ) (n : ℕ) (out : List ℕ) (files : Option Files) (F : List ℕ → Type 0)
+    (P : Bool → Type 0) (status : Status) (text : List ℕ) (left : Option Files)
     → Replays design map trace n out files F P status text left → Once P
 replays-once design map trace n out files F P status text left (inl (u, (same, none))) = (false, none)
 replays-once design map trace n out files F P status text left (inr (v, t, is, (rows, outcome, run, said, (held, once)))) = (true, once)
 
-replays-none : (design map trace : List ℕ) (n : ℕ) (out : List ℕ) (files : Option Files) (F : List ℕ → Type 0) (P : Bool → Type 0) (status : Status) (text : List ℕ) (left : Option Files)
+replays-none : (design map trace : List ℕ) (n : ℕ) (out : List ℕ) (files : Option Files) (F : List ℕ → Type 0)
+    (P : Bool → Type 0) (status : Status) (text : List ℕ) (left : Option Files)
     → Replays design map trace n out files F P status text left → StartsNone status → P false
 replays-none design map trace n out files F P status text left (inl (u, (same, none))) is = none
 replays-none design map trace n out files F P status text left (inr (v, t, able, (rows, outcome, run, said, held))) is =

@@ -7,12 +7,14 @@ use Rattle.vidi_commands.specs.Answer.{StartsNone}
 use Rattle.sample_command.proofs.trace_commands_lemmas.QuietTraces.{mute-saves, quiet-saves}
 use Rattle.vidi_commands.proofs.Facts.{Facts, Once, cut-once, done-starts}
 
-saves-once : (trace out : List ℕ) (files : Option Files) (F : List ℕ → Type 0) (P : Bool → Type 0) (status : Status) (text : List ℕ) (left : Option Files)
+saves-once : (trace out : List ℕ) (files : Option Files) (F : List ℕ → Type 0)
+    (P : Bool → Type 0) (status : Status) (text : List ℕ) (left : Option Files)
     → Saves trace out files F P status text left → Once P
 saves-once trace out files F P status text left (inl (u, (same, none))) = (false, none)
 saves-once trace out files F P status text left (inr (t, whole, said, (held, once))) = (true, once)
 
-saves-none : (trace out : List ℕ) (files : Option Files) (F : List ℕ → Type 0) (P : Bool → Type 0) (status : Status) (text : List ℕ) (left : Option Files)
+saves-none : (trace out : List ℕ) (files : Option Files) (F : List ℕ → Type 0)
+    (P : Bool → Type 0) (status : Status) (text : List ℕ) (left : Option Files)
     → Saves trace out files F P status text left → StartsNone status → P false
 saves-none trace out files F P status text left (inl (u, (same, none))) is = none
 saves-none trace out files F P status text left (inr (t, whole, said, held)) is = absurd (done-starts status said.0 is)

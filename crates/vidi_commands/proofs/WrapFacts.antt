@@ -7,12 +7,14 @@ use Rattle.vidi_commands.specs.Answer.{StartsNone}
 use Rattle.wrap_command.proofs.QuietWraps.{mute-wraps, quiet-wraps}
 use Rattle.vidi_commands.proofs.Facts.{Facts, Once, cut-once, done-starts}
 
-wraps-once : (design map out : List ℕ) (files : Option Files) (F : List ℕ → Type 0) (P : Bool → Type 0) (status : Status) (text : List ℕ) (left : Option Files)
+wraps-once : (design map out : List ℕ) (files : Option Files) (F : List ℕ → Type 0)
+    (P : Bool → Type 0) (status : Status) (text : List ℕ) (left : Option Files)
     → Wraps design map out files F P status text left → Once P
 wraps-once design map out files F P status text left (inl (u, (same, none))) = (false, none)
 wraps-once design map out files F P status text left (inr (f, m, is, (said, (held, once)))) = (true, once)
 
-wraps-none : (design map out : List ℕ) (files : Option Files) (F : List ℕ → Type 0) (P : Bool → Type 0) (status : Status) (text : List ℕ) (left : Option Files)
+wraps-none : (design map out : List ℕ) (files : Option Files) (F : List ℕ → Type 0)
+    (P : Bool → Type 0) (status : Status) (text : List ℕ) (left : Option Files)
     → Wraps design map out files F P status text left → StartsNone status → P false
 wraps-none design map out files F P status text left (inl (u, (same, none))) is = none
 wraps-none design map out files F P status text left (inr (f, m, able, (said, held))) is = absurd (done-starts status said.0 is)
