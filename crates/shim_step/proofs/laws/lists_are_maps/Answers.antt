@@ -1,6 +1,6 @@
-use Rattle.shim_design.proofs.Maps.{lists_are_maps}
-use Rattle.shim_design.proofs.Memories.{memories_differ}
-use Rattle.shim_design.proofs.laws.lists_are_maps.Goals as goal
+use Rattle.shim_step.proofs.Maps.{lists_are_maps}
+use Rattle.shim_step.proofs.Memories.{memories_differ}
+use Rattle.shim_step.proofs.laws.lists_are_maps.Goals as goal
 
 pub returns-clause-maps : goal.returns-clause-maps
 returns-clause-maps c = lists_are_maps

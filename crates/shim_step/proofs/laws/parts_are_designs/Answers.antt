@@ -1,5 +1,5 @@
-use Rattle.shim_design.proofs.Part.{part_is_settled, part_is_next, part_is_initial}
-use Rattle.shim_design.proofs.laws.parts_are_designs.Goals as goal
+use Rattle.shim_step.proofs.Part.{part_is_settled, part_is_next, part_is_initial}
+use Rattle.shim_step.proofs.laws.parts_are_designs.Goals as goal
 
 pub returns-clause-settled : goal.returns-clause-settled
 returns-clause-settled c = part_is_settled

@@ -6,7 +6,7 @@ use Rattle.net_design.specs.Settled as design
 use Rattle.flat_parts.specs.vlog_meaning.Names.{Name, Full, State}
 use Rattle.flat_parts.specs.vlog_meaning.Settled.{IsClock}
 use Rattle.flat_parts.specs.Meaning.{values_of, state_of, AreNarrow, Means}
-use Rattle.shim_design.specs.Part.{under, part, pins_below, IsPart}
+use Rattle.shim_step.specs.Part.{under, part, pins_below, IsPart}
 
 -- `whole` means a file with this top, in which module m of the other file, which d means, is the instance x
 pub record IsPartOf (file more : List (ModuleOf ℕ)) (top m : ModuleOf ℕ) (x : Name) (whole d : Design) : Type 0 where

@@ -27,11 +27,11 @@ use Rattle.flat_parts.specs.vlog_meaning.Instances.{IsChild, IsAt}
 use Rattle.flat_parts.specs.vlog_meaning.Items.{ItemHolds, HoldsAt}
 use Rattle.flat_parts.specs.vlog_meaning.Settled.{IsSettled}
 use Rattle.flat_parts.specs.vlog_meaning.Next.{IsNext, clocked_updates}
-use Rattle.shim_design.specs.Plain.{net_named, extent, port_nets, item_nets, nets_of, IsPlain, IsPlainItem, IsClockedItem}
-use Rattle.shim_design.specs.Nets.{IsNet, NetsStand, RegsAreHeld}
-use Rattle.shim_design.proofs.Elements.{Has, Found, found, at_member, has_left, has_right, has_contains, contains_has, place_some, Apart, apart_from}
-use Rattle.shim_design.proofs.Scopes.{bare, scope_is}
-use Rattle.shim_design.proofs.Declared.{nets_apart, reg_held}
+use Rattle.shim_step.specs.Plain.{net_named, extent, port_nets, item_nets, nets_of, IsPlain, IsPlainItem, IsClockedItem}
+use Rattle.shim_step.specs.Nets.{IsNet, NetsStand, RegsAreHeld}
+use Rattle.shim_step.proofs.Elements.{Has, Found, found, at_member, has_left, has_right, has_contains, contains_has, place_some, Apart, apart_from}
+use Rattle.shim_step.proofs.Scopes.{bare, scope_is}
+use Rattle.shim_step.proofs.Declared.{nets_apart, reg_held}
 
 -- ---- a port of a module, and a net of an item, are nets
 pub in_ports : (before : Extent) (ps : List (PortOf ℕ)) (p : PortOf ℕ) (h : PortHeadOf ℕ) → Has ps p → p.head ≡ Some h

@@ -16,8 +16,8 @@ use Rattle.flat_parts.specs.vlog_scope.Extents.{port_extent}
 use Rattle.flat_parts.specs.vlog_size.Names.{params_alone}
 use Rattle.flat_parts.specs.vlog_scope.Params.{items_params, header_params}
 use Rattle.flat_parts.specs.vlog_scope.Scope.{with_ports, wire_nets, driven_nets, with_regs, with_reg, with_item, with_items, scope_with, with_net, scope_after, with_places}
-use Rattle.shim_design.specs.Plain.{net_named, extent, port_nets, item_nets, nets_of, IsPlainTail, IsPlainReg, IsPlainItem}
-use Rattle.shim_design.proofs.Elements.{Has, at_member, other_name, Apart}
+use Rattle.shim_step.specs.Plain.{net_named, extent, port_nets, item_nets, nets_of, IsPlainTail, IsPlainReg, IsPlainItem}
+use Rattle.shim_step.proofs.Elements.{Has, at_member, other_name, Apart}
 
 -- ---- entries added one after the other
 abbrev with_all : {V : Type 0} → List (Named V) → List (Named V) → List (Named V)

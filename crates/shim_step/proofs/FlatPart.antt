@@ -3,9 +3,9 @@ use Rattle.std.proofs.Common.{ℕ, List, ◌∷◌}
 use Rattle.vlog_tree.specs.Tree.{ModuleOf}
 use Rattle.flat_parts.specs.vlog_meaning.Names.{Name, Full}
 use Rattle.flat_parts.specs.Meaning.{AreNarrow}
-use Rattle.shim_design.specs.Part.{under, part, pins_below, IsPart}
-use Rattle.shim_design.specs.FlatPart.{PartSettles, PartGoesOn, PartBegins}
-use Rattle.shim_design.proofs.Part.{at_part, part_is_settled, part_is_next, part_is_initial}
+use Rattle.shim_step.specs.Part.{under, part, pins_below, IsPart}
+use Rattle.shim_step.specs.FlatPart.{PartSettles, PartGoesOn, PartBegins}
+use Rattle.shim_step.proofs.Part.{at_part, part_is_settled, part_is_next, part_is_initial}
 
 pub narrow : (file more : List (ModuleOf ℕ)) (top m : ModuleOf ℕ) (x : Name) → IsPart file more top x m
     → (words : Full → ℕ → ℕ) → AreNarrow more top words → AreNarrow file m (under x words)

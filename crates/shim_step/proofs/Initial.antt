@@ -15,10 +15,10 @@ use Rattle.flat_parts.specs.vlog_scope.Scope.{scope_with, after_item}
 use Rattle.flat_parts.specs.vlog_meaning.Placed.{Placed, placed, placed_items, names_at}
 use Rattle.flat_parts.specs.vlog_meaning.Settled.{is_held}
 use Rattle.flat_parts.specs.vlog_meaning.Next.{port_initials, reg_initials, item_initials, initials, initial_number}
-use Rattle.shim_design.specs.Plain.{nets_of, HasNoInit, HasNoInits}
-use Rattle.shim_design.specs.Nets.{NetsBegin}
-use Rattle.shim_design.proofs.Elements.{Found, found, contains_has}
-use Rattle.shim_design.proofs.Standing.{plain_nets_differ, plain_scope}
+use Rattle.shim_step.specs.Plain.{nets_of, HasNoInit, HasNoInits}
+use Rattle.shim_step.specs.Nets.{NetsBegin}
+use Rattle.shim_step.proofs.Elements.{Found, found, contains_has}
+use Rattle.shim_step.proofs.Standing.{plain_nets_differ, plain_scope}
 
 no_port_init : (r : Readable) (s : Scope) (ps : List (PortOf ℕ)) → AllByRecursion (λ (p : PortOf ℕ). p.init ≡ None) ps
     → flat_map (λ (p : PortOf ℕ). port_initials r s p.id p.init) ps ≡ []

@@ -1,5 +1,5 @@
-use Rattle.shim_design.proofs.FlatPart.{part_settles, part_goes_on, part_begins}
-use Rattle.shim_design.proofs.laws.flat_parts_are_designs.Goals as goal
+use Rattle.shim_step.proofs.FlatPart.{part_settles, part_goes_on, part_begins}
+use Rattle.shim_step.proofs.laws.flat_parts_are_designs.Goals as goal
 
 pub returns-clause-settles : goal.returns-clause-settles
 returns-clause-settles c = part_settles

@@ -11,7 +11,7 @@ use Rattle.flat_parts.specs.vlog_meaning.Instances.{IsChild, Leads, IsAt}
 use Rattle.flat_parts.specs.vlog_meaning.Items.{HoldsAt, ItemHolds}
 use Rattle.flat_parts.specs.vlog_meaning.Settled.{IsSettled, IsClock}
 use Rattle.flat_parts.specs.vlog_meaning.Next.{IsNext, IsInitial}
-use Rattle.shim_design.specs.Part.{under, part, pins_below, Extends, HasPart, PartIsSettled, PartIsNext, PartIsInitial}
+use Rattle.shim_step.specs.Part.{under, part, pins_below, Extends, HasPart, PartIsSettled, PartIsNext, PartIsInitial}
 
 module _ (file more : List (ModuleOf ℕ)) (keep : Extends file more) where
   child_more : (m : ModuleOf ℕ) (s : Scope) (i : InstanceOf ℕ) (n : ModuleOf ℕ) (t : Scope) → IsChild file m s i n t → IsChild more m s i n t

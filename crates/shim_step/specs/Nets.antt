@@ -15,7 +15,7 @@ use Rattle.flat_parts.specs.vlog_meaning.Instances.{IsAt}
 use Rattle.flat_parts.specs.vlog_meaning.Items.{IsAssigned, ConnsHold, whole, read}
 use Rattle.flat_parts.specs.vlog_meaning.Settled.{IsSettled}
 use Rattle.flat_parts.specs.vlog_meaning.Next.{IsInitial}
-use Rattle.shim_design.specs.Plain.{nets_of, IsPlain, IsClockedItem, HasNoInits}
+use Rattle.shim_step.specs.Plain.{nets_of, IsPlain, IsClockedItem, HasNoInits}
 
 -- the name is a net of w bits that has the number x in v
 pub record IsNet (r : Readable) (v : Values) (name : List ℕ) (w x : ℕ) : Type 0 where

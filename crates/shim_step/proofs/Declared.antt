@@ -22,8 +22,8 @@ use Rattle.flat_parts.specs.vlog_scope.Scope.{after_item}
 use Rattle.flat_parts.specs.vlog_names.Ports.{has_output, has_reg, is_output_port}
 use Rattle.flat_parts.specs.vlog_meaning.Placed.{Placed, placed, placed_items, names_at}
 use Rattle.flat_parts.specs.vlog_meaning.Settled.{is_held, item_writes}
-use Rattle.shim_design.specs.Plain.{net_named, extent, port_nets, item_nets, nets_of, IsPlainItem, IsPosedge, IsClockedItem}
-use Rattle.shim_design.proofs.Elements.{Has, found, Apart, has_left, has_right}
+use Rattle.shim_step.specs.Plain.{net_named, extent, port_nets, item_nets, nets_of, IsPlainItem, IsPosedge, IsClockedItem}
+use Rattle.shim_step.proofs.Elements.{Has, found, Apart, has_left, has_right}
 
 -- ---- what is found
 entry_in_ports : (before : Declaration) (ps : List (PortOf ℕ)) (p : PortOf ℕ) (h : PortHeadOf ℕ) → Has ps p → p.head ≡ Some h

@@ -24,8 +24,8 @@ use Rattle.flat_parts.specs.vlog_block.Value.{value, width_of, source_number}
 use Rattle.flat_parts.specs.vlog_block.Targets.{target_width, source_updates}
 use Rattle.flat_parts.specs.vlog_names.Ports.{has_output}
 use Rattle.flat_parts.specs.vlog_meaning.Items.{IsAssigned, JoinHolds, ConnHolds, whole, read}
-use Rattle.shim_design.proofs.Elements.{at_member, contains_has}
-use Rattle.shim_design.specs.Nets.{IsNet, NetIsRead, NetIsAssigned, NetsAreJoined}
+use Rattle.shim_step.proofs.Elements.{at_member, contains_has}
+use Rattle.shim_step.specs.Nets.{IsNet, NetIsRead, NetIsAssigned, NetsAreJoined}
 
 below_whole : (x w : ℕ) → x < 2 ^ w → x / 2 ^ 0 % 2 ^ w ≡ x
 below_whole x w h = ap (λ y. y % 2 ^ w) (div-one x) ∙ mod-eq_of_lt h

@@ -8,9 +8,9 @@ use Rattle.net_design.specs.declared.design.DesignMemory.{DesignMemory}
 use Rattle.net_design.specs.Names.{net_names, list_at, paths}
 use Rattle.flat_parts.specs.vlog_meaning.Names.{Full, words_from}
 use Rattle.flat_parts.specs.Meaning.{memory_words}
-use Rattle.shim_design.specs.Maps.{memory_names, ListsAreMaps}
-use Rattle.shim_design.proofs.Beside.{beside, all_beside, pieces, pieces_long, words_are}
-use Rattle.shim_design.proofs.Elements.{distinct_from}
+use Rattle.shim_step.specs.Maps.{memory_names, ListsAreMaps}
+use Rattle.shim_step.proofs.Beside.{beside, all_beside, pieces, pieces_long, words_are}
+use Rattle.shim_step.proofs.Elements.{distinct_from}
 
 abbrev len : DesignMemory → ℕ
 len a = a.room.length

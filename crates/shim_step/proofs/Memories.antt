@@ -30,8 +30,8 @@ use Rattle.flat_parts.specs.Seats.{seats_from, seats_of}
 use Rattle.flat_parts.specs.Nets.{memories_from, seat_memories, flat_memories}
 use Rattle.flat_parts.specs.Built.{IsBuilt}
 use Rattle.flat_parts.proofs.Listed.{instances_are_all, paths_differ}
-use Rattle.shim_design.specs.Maps.{memory_names, MemoriesDiffer}
-use Rattle.shim_design.proofs.Elements.{Apart, Distinct, all_members, has_contains}
+use Rattle.shim_step.specs.Maps.{memory_names, MemoriesDiffer}
+use Rattle.shim_step.proofs.Elements.{Apart, Distinct, all_members, has_contains}
 
 abbrev Memories : Type 0
 Memories = List (Named ScopeMemory)

@@ -1,5 +1,5 @@
-use Rattle.shim_design.proofs.Whole.{net_is_read, net_is_assigned, nets_are_joined}
-use Rattle.shim_design.proofs.laws.nets_are_named.Goals as goal
+use Rattle.shim_step.proofs.Whole.{net_is_read, net_is_assigned, nets_are_joined}
+use Rattle.shim_step.proofs.laws.nets_are_named.Goals as goal
 
 pub returns-clause-read : goal.returns-clause-read
 returns-clause-read c = net_is_read

@@ -2,7 +2,7 @@
 use Rattle.std.proofs.Common.{◌≡◌, ◌≢◌, ℕ, suc, ◌+◌, ◌<◌, Bool, true, false, if◌then◌else◌, List, [], ◌∷◌, map}
 use Rattle.std.proofs.Common.{length, get_or, take, drop, refl, sym, ap, ◌∙◌, arith}
 use Rattle.std.specs.List.{AllByRecursion}
-use Rattle.shim_design.proofs.Elements.{Distinct}
+use Rattle.shim_step.proofs.Elements.{Distinct}
 use Rattle.flat_parts.specs.vlog_meaning.Names.{Full, words_from, same_path}
 use Rattle.flat_parts.proofs.vlog_meaning_lemmas.Paths.{path_same, path_itself}
 

@@ -25,10 +25,10 @@ use Rattle.flat_parts.specs.vlog_scope.Scope.{params_scope}
 use Rattle.flat_parts.specs.vlog_meaning.Names.{Name, Full, numbers_at}
 use Rattle.flat_parts.specs.vlog_meaning.Placed.{names_at}
 use Rattle.flat_parts.specs.vlog_meaning.Next.{net_width}
-use Rattle.shim_design.specs.Nets.{IsNet}
-use Rattle.shim_design.proofs.Elements.{Has, Found, found, at_member, other_name, all_members, has_map, has_flat, has_left, has_right, in_slice}
-use Rattle.shim_design.proofs.Elements.{place_some, Apart, apart_front, apart_back, apart_sides}
-use Rattle.shim_design.proofs.Standing.{number_at}
+use Rattle.shim_step.specs.Nets.{IsNet}
+use Rattle.shim_step.proofs.Elements.{Has, Found, found, at_member, other_name, all_members, has_map, has_flat, has_left, has_right, in_slice}
+use Rattle.shim_step.proofs.Elements.{place_some, Apart, apart_front, apart_back, apart_sides}
+use Rattle.shim_step.proofs.Standing.{number_at}
 
 -- ---- a name that no parameter has
 module _ (name : List ℕ) where

@@ -1,6 +1,6 @@
-use Rattle.shim_design.proofs.Standing.{nets_stand, regs_are_held}
-use Rattle.shim_design.proofs.Initial.{nets_begin}
-use Rattle.shim_design.proofs.laws.nets_stand.Goals as goal
+use Rattle.shim_step.proofs.Standing.{nets_stand, regs_are_held}
+use Rattle.shim_step.proofs.Initial.{nets_begin}
+use Rattle.shim_step.proofs.laws.nets_stand.Goals as goal
 
 pub returns-clause-nets : goal.returns-clause-nets
 returns-clause-nets c = nets_stand
