@@ -55,7 +55,7 @@ seen_long ps s l =
 same_set : (xs : List ℕ) (t i x : ℕ) → i ≡ t → i < length xs → slice_index (slice_set xs t x) i ≡ x
 same_set xs t i x e l = ap (slice_index (slice_set xs t x)) e ∙ get_or-set_same xs t x 0 (subst (λ k. k < length xs) e l)
 
-either_way : (i t : ℕ) (P : Type 0) → (i ≡ t → P) → (i ≢ t → P) → P
+pub either_way : (i t : ℕ) (P : Type 0) → (i ≡ t → P) → (i ≢ t → P) → P
 either_way i t P f g = ⊎_elim
     (λ (a : i < t). g (λ e. absurd (omega (arith, a, e))))
     (λ (b : t ≤ i). ⊎_elim (λ (c : t < i). g (λ e. absurd (omega (arith, c, e)))) (λ (d : i ≤ t). f (omega (arith, b, d))) (cases_lt t i))
@@ -222,7 +222,7 @@ put_long s t low size i w x =
     long_if (nat_lt i size) (put_at s t (low + i) (min w (size - i)) x) s (length-set s t (put_of (slice_index s t) (low + i)
     (min w (size - i)) x))
 
-changed_long : (i : Instr) (s : List ℕ) → length (changed i s) ≡ length s
+pub changed_long : (i : Instr) (s : List ℕ) → length (changed i s) ≡ length s
 changed_long (Do to step) s = length-set s to (number_of step s)
 changed_long (Put to low w a rest) s = length-set s to _
 changed_long (PutFrom to low size i w a rest) s = put_long s to low size _ w _
@@ -236,7 +236,7 @@ changed_long (PutWordFrom first n i size j w a rest) s =
 changed_long (SkipIfZero c n) s = refl
 changed_long (Skip n) s = refl
 
-exec_long : (code : List Instr) (k : ℕ) (s : List ℕ) → length (exec code k s) ≡ length s
+pub exec_long : (code : List Instr) (k : ℕ) (s : List ℕ) → length (exec code k s) ≡ length s
 exec_long [] k s = refl
 exec_long (i ∷ code) zero s = exec_long code (skips i s) (changed i s) ∙ changed_long i s
 exec_long (i ∷ code) (suc k) s = exec_long code k s
@@ -255,7 +255,7 @@ few_if : (b : Bool) (n : ℕ) → (if b then n else 0) ≤ n
 few_if true n = omega arith
 few_if false n = omega arith
 
-skips_few : (i : Instr) (s : List ℕ) → skips i s ≤ most_left i
+pub skips_few : (i : Instr) (s : List ℕ) → skips i s ≤ most_left i
 skips_few (Do to step) s = omega arith
 skips_few (Put to low w a rest) s = omega arith
 skips_few (PutFrom to low size i w a rest) s = omega arith

@@ -11,3 +11,4 @@ pub mod Safe
 pub mod Whole
 pub mod Steps
 pub mod InPlaceLaws
+pub mod NeedLaws

@@ -3,3 +3,4 @@ pub mod Layout
 pub mod Expressions
 pub mod Statements
 pub mod InPlace
+pub mod Needs

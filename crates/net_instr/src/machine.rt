@@ -1,8 +1,9 @@
 //! The machine that runs instructions.
 
-ghost use Rattle.std.specs.Prelude.{◌≡◌, ◌+◌, ◌/◌, ◌^◌, ◌<◌, ◌≤◌, All, length, slice_index, slice_set, nat_lt, if◌then◌else◌};
+ghost use Rattle.std.specs.Prelude.{◌≡◌, ◌+◌, ◌/◌, ◌^◌, ◌<◌, ◌≤◌, false, All, length, slice_index, slice_set, take, nat_lt, if◌then◌else◌};
 ghost use Rattle.net_design.specs.vidi_bits.Number.{IsWidth};
 ghost use Rattle.net_instr.specs.Machine.{number_of, put_at, put_from, changed, skips, exec, IsStep, IsInstr};
+ghost use Rattle.net_instr.specs.Needs.{target};
 
 use crate::instr::{Instr, Step};
 use net_design::vidi_bits::{
@@ -245,6 +246,88 @@ fn one(instr: &Instr, slots: &mut [u128]) -> usize
         }
         Instr::Skip { count } => *count as usize,
     }
+}
+
+/// The only slot that an instruction may change.
+fn target(instr: &Instr, slots: &[u128]) -> usize
+    ensures { result ≡ target instr.now slots.now }
+{
+    match instr {
+        Instr::Do { to, .. } => *to as usize,
+        Instr::Put { to, .. } => *to as usize,
+        Instr::PutFrom { to, .. } => *to as usize,
+        Instr::PutWord {
+            first,
+            length,
+            word,
+            ..
+        }
+        | Instr::PutWordFrom {
+            first,
+            length,
+            word,
+            ..
+        } => {
+            let word = at(slots, *word);
+            if word < u128::from(*length) {
+                *first as usize + word as usize
+            } else {
+                0
+            }
+        }
+        Instr::SkipIfZero { .. } | Instr::Skip { .. } => 0,
+    }
+}
+
+/// A slot, where it is one of the first `limit`; else 0.
+fn front(slots: &[u128], limit: usize, i: usize) -> u128
+    ensures { result ≡ (if nat_lt i limit then slice_index slots.now i else 0) }
+{
+    if i < limit && i < slots.len() {
+        slots[i]
+    } else {
+        0
+    }
+}
+
+/// Whether a change was noted, or a number changed.
+fn is_moved(moved: bool, before: u128, after: u128) -> bool
+    ensures { (result ≡ false) → (moved ≡ false) × (after ≡ before) }
+{
+    moved || after != before
+}
+
+/// One instruction, as `one`; notes in `moved` whether it changed one of the first `limit` slots.
+fn one_noted(instr: &Instr, slots: &mut [u128], limit: usize, moved: &mut bool) -> usize
+    requires { IsInstr instr.now }
+    ensures slots { slots.new ≡ changed instr.now slots.old }
+    ensures skip { result ≡ skips instr.now slots.old }
+    ensures kept { (moved.new ≡ false) → (moved.old ≡ false) × (take limit slots.new ≡ take limit slots.old) }
+{
+    let to = target(instr, slots);
+    let before = front(slots, limit, to);
+    let skip = one(instr, slots);
+    let after = front(slots, limit, to);
+    *moved = is_moved(*moved, before, after);
+    skip
+}
+
+/// Runs code on slots, as `run_code`; answers whether it changed one of the first `limit` in between.
+pub fn run_noting(code: &[Instr], slots: &mut [u128], limit: usize) -> bool
+    requires { All (λ i. IsInstr i) code.now }
+    ensures slots { slots.new ≡ exec code.now 0 slots.old }
+    ensures kept { (result ≡ false) → take limit slots.new ≡ take limit slots.old }
+{
+    let mut at = 0;
+    let mut moved = false;
+    'go: while at < code.len() {
+        let skip = one_noted(&code[at], slots, limit, &mut moved);
+        if skip >= code.len() - at {
+            return moved;
+        }
+        at += 1 + skip;
+    }
+    moved
 }
 
 /// Runs code on slots.

@@ -1,6 +1,6 @@
 //! Nets that only copy another are read in its place, and not copied.
 
-ghost use Rattle.std.specs.Prelude.{◌≡◌, ℕ, ◌<◌, ◌≤◌, ◌++◌, ◌∷◌, [], List, false, true, All, IsTrue, IfOk, OnOk, MatchOption, length, slice_index, slice_index_or, slice_set};
+ghost use Rattle.std.specs.Prelude.{◌≡◌, ℕ, ◌<◌, ◌≤◌, ◌++◌, ◌∷◌, [], List, false, true, All, IsTrue, IfOk, OnOk, MatchOption, length, replicate, slice_index, slice_index_or, slice_set};
 ghost use Rattle.net_instr.specs.declared.instr.Step.TheVariants.{Copy};
 ghost use Rattle.net_instr.specs.declared.instr.Instr.TheVariants.{Do};
 ghost use Rattle.net_instr.specs.Machine.{exec, IsInstr};
@@ -215,12 +215,12 @@ fn instr_at(places: &[u32], instr: &Instr) -> Instr
     }
 }
 
-/// Whether a slot is one that another net is read at.
-fn is_shared(shared: &[bool], a: u32) -> bool
-    ensures { result ≡ slice_index_or shared.now a true }
+/// The mark of a slot; past the last one all are marked.
+pub fn is_marked(marks: &[bool], a: u32) -> bool
+    ensures { result ≡ slice_index_or marks.now a true }
 {
     let i = a as usize;
-    if i < shared.len() { shared[i] } else { true }
+    if i < marks.len() { marks[i] } else { true }
 }
 
 /// Whether what is written to a slot is surely seen there alone.
@@ -232,11 +232,11 @@ fn is_free(places: &[u32], shared: &[bool], to: u32) -> bool
     if i >= places.len() {
         return true;
     }
-    places[i] == to && !is_shared(shared, to)
+    places[i] == to && !is_marked(shared, to)
 }
 
 /// Whether no word that a step reads is among the nets.
-fn is_behind(places: &[u32], step: &Step) -> bool
+pub fn is_behind(places: &[u32], step: &Step) -> bool
     ensures { IsTrue result → IsBehind places.now step.now }
 {
     match step {
@@ -262,7 +262,7 @@ fn is_apart(places: &[u32], shared: &[bool], instr: &Instr) -> bool
 }
 
 /// How many of the next instructions may be left out.
-fn left_out(instr: &Instr) -> usize
+pub fn left_out(instr: &Instr) -> usize
     ensures { result ≡ most_left instr.now }
 {
     match instr {
@@ -291,13 +291,13 @@ fn nets_of_copy(instr: &Instr, nets: usize) -> Option<(u32, u32)>
     }
 }
 
-/// Marks a slot that another net is read at.
-fn mark(shared: &mut Items<bool>, a: u32)
-    ensures { shared.new ≡ slice_set shared.old a true }
+/// Marks a slot.
+pub fn mark(marks: &mut Items<bool>, a: u32)
+    ensures { marks.new ≡ slice_set marks.old a true }
 {
     let i = a as usize;
-    if i < shared.len() {
-        shared.set(i, true);
+    if i < marks.len() {
+        marks.set(i, true);
     }
 }
 
@@ -428,7 +428,7 @@ fn clocks_in_place(
 }
 
 /// Each net read where it stands.
-fn where_they_stand(alloc: Global, nets: u32) -> Result<Items<u32>, Memory>
+pub fn where_they_stand(alloc: Global, nets: u32) -> Result<Items<u32>, Memory>
     ensures { IfOk result (λ places. (length places ≡ nets) × ((i : ℕ) → i < nets → slice_index places i ≡ i)) }
 {
     let mut places = Items::new(alloc);
@@ -438,8 +438,10 @@ fn where_they_stand(alloc: Global, nets: u32) -> Result<Items<u32>, Memory>
     Ok(places)
 }
 
-/// A mark for each net, which no other is read at.
-fn no_marks(alloc: Global, nets: u32) -> Result<Items<bool>, Memory> {
+/// A mark for each net, not set.
+pub fn no_marks(alloc: Global, nets: u32) -> Result<Items<bool>, Memory>
+    ensures { IfOk result (λ marks. marks ≡ replicate nets false) }
+{
     let marks = Vec::from_elem(alloc, false, nets as usize)?;
     Ok(Items::from_vec(marks))
 }

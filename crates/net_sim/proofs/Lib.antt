@@ -2,6 +2,7 @@ pub mod Steps
 pub mod EnterLaws
 pub mod PlaceLaws
 pub mod SlotLaws
+pub mod ShownLaws
 pub mod SimLaws
 pub mod NameLaws
 pub mod LoadLaws

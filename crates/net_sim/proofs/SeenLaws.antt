@@ -1,6 +1,6 @@
 -- What is seen in a simulator's slots, where nets that only copy another are read in its place.
 use Rattle.std.proofs.Common.{◌≡◌, ℕ, ◌+◌, ◌-◌, ◌<◌, ◌≤◌, Bool, true, false, if◌then◌else◌, List, ◌++◌, All, map, length, length-append, take, drop, reverse, replicate}
-use Rattle.std.proofs.Common.{slice_index, ⊎_elim, ap, sym, ◌∙◌, arith}
+use Rattle.std.proofs.Common.{slice_index, ⊎_elim, ap, sym, subst, ◌∙◌, arith}
 use Rattle.std.proofs.Math.Logic.{∥∥₁_elim}
 use Rattle.std.proofs.Props.{props}
 use Rattle.std.proofs.lemmas.Bool.{cases_lt}
@@ -15,6 +15,7 @@ use Rattle.net_order.specs.Run.{entered}
 use Rattle.net_instr.specs.declared.instr.Instr.{Instr}
 use Rattle.net_instr.specs.Machine.{exec, IsInstr}
 use Rattle.net_instr.specs.InPlace.{place, through, IsInPlace}
+use Rattle.net_instr.specs.Needs.{IsEnough}
 use Rattle.net_instr.proofs.InPlaceLaws.{at_net, at_rest, seen_at, seen_long}
 use Rattle.net_sim.specs.Slots.{span_of, settling_code, clocking_code, copied}
 use Rattle.net_sim.proofs.SlotLaws.{copied_long}
@@ -91,17 +92,34 @@ module _ (d : Design) (order ps : List ℕ) (settles clocks : List Instr)
       let w = length-map d.nets (λ (x : Net). x.width) in
       omega (arith, n, w)
 
+  -- what is copied is enough, so what holds of code that needs no more holds at the places
+  pub seen_enough : (ms : List ℕ) (first : ℕ) (code : List Instr) (ports : List Port) (new : List ℕ) (f : List ℕ → List ℕ)
+      → ∥ IsEnough ps settles ms ∥₁ → first ≡ length d.nets → code ≡ settles → ports ≡ d.ports → length d.ports ≤ length d.nets
+      → ((qs : List ℕ) → length qs ≡ first → length ports ≤ first → IsEnough qs code ms → through qs new ≡ f qs)
+      → through ps new ≡ f ps
+  seen_enough ms first code ports new f enough e c p few g =
+      ∥∥₁_elim enough (hlevel props) (λ h.
+      g ps (let n = places_long in omega (arith, n, e)) (let n = ap (λ (qs : List Port). length qs) p in omega (arith, n, e, few))
+      (subst (λ (xs : List Instr). IsEnough ps xs ms) (sym c) h))
+
+  pub copied_within : (ms : List ℕ) (first : ℕ) → ∥ IsEnough ps settles ms ∥₁ → first ≡ length d.nets → All (λ m. m < first) ms
+  copied_within ms first enough e =
+      ∥∥₁_elim enough (hlevel props) (λ h k x l. let w = h.within k x l in let n = places_long in omega (arith, w, n, e))
+
+  pub words_within : (first span : ℕ) → first ≡ length d.nets → span ≡ span_of d → first ≤ span
+  words_within first span e k = let few = few_places in let n = places_long in omega (arith, few, n, e, k)
+
   -- slots that settled, as they are seen
   pub seen_settled : (slots pins given new : List ℕ) (code : List Instr) (ports : List Port) (span : ℕ)
       → code ≡ settles → ports ≡ d.ports → given ≡ pins → span ≡ span_of d → span_of d + span_of d ≤ length slots
-      → new ≡ exec code 0 (entered ports given (copied span slots))
+      → through ps new ≡ through ps (exec code 0 (entered ports given (copied span slots)))
       → through ps new ≡ exec (reverse (settling_code d order)) 0 (entered d.ports pins (copied (span_of d) (through ps slots)))
   seen_settled slots pins given new code ports span c p g k long e =
       let few = few_places in
       let here : length ps ≤ length slots = omega (arith, few, long) in
       let x : List ℕ = entered d.ports pins (copied (span_of d) slots) in
       let lx : length x ≡ length slots = entered_long d.ports pins (copied (span_of d) slots) ∙ copied_long (span_of d) slots long in
-      ap (through ps) (e ∙ ap (λ (xs : List Instr). exec xs 0 (entered ports given (copied span slots))) c
+      e ∙ ap (through ps) (ap (λ (xs : List Instr). exec xs 0 (entered ports given (copied span slots))) c
       ∙ ap (λ (qs : List Port). exec settles 0 (entered qs given (copied span slots))) p
       ∙ ap (λ (xs : List ℕ). exec settles 0 (entered d.ports xs (copied span slots))) g
       ∙ ap (λ j. exec settles 0 (entered d.ports pins (copied j slots))) k)
@@ -112,11 +130,11 @@ module _ (d : Design) (order ps : List ℕ) (settles clocks : List Instr)
   -- the same, unless that was done
   pub seen_again : (fresh : Bool) (slots pins given new : List ℕ) (code : List Instr) (ports : List Port) (span : ℕ)
       → code ≡ settles → ports ≡ d.ports → given ≡ pins → span ≡ span_of d → span_of d + span_of d ≤ length slots
-      → new ≡ (if fresh then slots else exec code 0 (entered ports given (copied span slots)))
+      → through ps new ≡ (if fresh then through ps slots else through ps (exec code 0 (entered ports given (copied span slots))))
       → through ps new
       ≡ (if fresh then through ps slots
       else exec (reverse (settling_code d order)) 0 (entered d.ports pins (copied (span_of d) (through ps slots))))
-  seen_again true slots pins given new code ports span c p g k long e = ap (through ps) e
+  seen_again true slots pins given new code ports span c p g k long e = e
   seen_again false slots pins given new code ports span c p g k long e = seen_settled slots pins given new code ports span c p g k long e
 
   -- slots that were clocked, as they are seen
@@ -133,6 +151,12 @@ module _ (d : Design) (order ps : List ℕ) (settles clocks : List Instr)
   pub seen_front : (u s : List ℕ) → span_of d ≤ length u → span_of d ≤ length s → take (span_of d) u ≡ take (span_of d) s
       → take (span_of d) (through ps u) ≡ take (span_of d) (through ps s)
   seen_front u s f g e = front_seen ps places_below u s (span_of d) few_places f g e
+
+  pub seen_both : (u s : List ℕ) (both : ℕ) → both ≡ span_of d + span_of d → both ≤ length u → both ≤ length s → take both u ≡ take both s
+      → take (span_of d + span_of d) (through ps u) ≡ take (span_of d + span_of d) (through ps s)
+  seen_both u s both b f g e =
+      subst (λ k. take k (through ps u) ≡ take k (through ps s)) b
+      (front_seen ps places_below u s both (let few = few_places in omega (arith, few, b)) f g e)
 
   pub seen_zeros : (count : ℕ) → span_of d ≤ count → through ps (replicate count 0) ≡ replicate count 0
   seen_zeros count l = let few = few_places in zeros_seen ps places_below count (omega (arith, few, l))

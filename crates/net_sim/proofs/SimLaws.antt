@@ -1,7 +1,7 @@
 -- What a simulator keeps.
 use Rattle.std.proofs.Common.{Bool, true, false, IsTrue, if◌then◌else◌, refl}
 use Rattle.std.proofs.Common.{◌≡◌, ℕ, List, [], All}
-use Rattle.std.proofs.Common.{length, reverse, ap, sym, subst, ◌∙◌}
+use Rattle.std.proofs.Common.{arith, ◌+◌, length, take, reverse, ap, sym, subst, ◌∙◌}
 use Rattle.std.proofs.Math.Logic.{∥∥₁_elim}
 use Rattle.std.proofs.Props.{props}
 use Rattle.net_design.specs.declared.act.Timing.TheVariants.{Nonblocking}
@@ -21,6 +21,7 @@ use Rattle.net_instr.specs.declared.instr.Instr.TheVariants.{Do, Put, PutFrom, P
 use Rattle.net_instr.specs.Machine.{IsStep, IsInstr, AreBelow, exec}
 use Rattle.net_instr.specs.Layout.{IsReady, Moves}
 use Rattle.net_instr.proofs.Whole.{safe_reverse}
+use Rattle.net_instr.proofs.Views.{same_shown, same_state}
 use Rattle.net_sim.specs.Slots.{widths_of, span_of, shown_in, state_in, settling_code, clocking_code, copied}
 use Rattle.net_sim.proofs.SlotLaws.{Settles, settling_safe, clocking_safe, settled_slots, clocked_slots}
 
@@ -158,3 +159,28 @@ module _ (d : Design) (law : ∥ IsLawful d ∥₁) (order : List ℕ) (o : ∥ 
       clock_state
       ∙ ap (λ (w : Values). next d w (state_in d slots))
       (f.shows ∙ sym (known_only d law order o (state_in d slots) pins state fit v h))
+
+  -- a clock that changed no number
+  module _ (same : take (span_of d + span_of d) new ≡ take (span_of d + span_of d) mid) where
+    shown_stays : shown_in d new ≡ shown_in d mid
+    shown_stays = same_shown (widths_of d) (word_count d) (span_of d + span_of d) mid new (omega arith) same
+
+    state_stays : state_in d new ≡ state_in d mid
+    state_stays = same_state (widths_of d) (word_count d) (span_of d + span_of d) mid new (omega arith) same
+
+    pub stays_settled : shown_in d new ≡ settled_by d order (state_in d new) pins
+    stays_settled =
+        shown_stays ∙ f.shows ∙ ap (λ (v : Values). settled_by d order v pins) (sym (state_stays ∙ f.moves))
+
+    pub stays_next : next d (shown_in d new) (state_in d new) ≡ state_in d new
+    stays_next =
+        ap (λ (v : Values). next d v (state_in d new)) shown_stays ∙ ap (next d (shown_in d mid)) state_stays ∙ sym clock_moves.moves
+
+-- where nothing changes, the next state is the state
+module _ (d : Design) (law : ∥ IsLawful d ∥₁) (order : List ℕ) (o : ∥ IsOrder d order ∥₁) (slots pins : List ℕ)
+    (state : IsState d (state_in d slots)) (fit : FitPins d pins) where
+  pub still_next : shown_in d slots ≡ settled_by d order (state_in d slots) pins
+      → next d (shown_in d slots) (state_in d slots) ≡ state_in d slots
+      → (v : Values) → IsSettled d (state_in d slots) pins v → state_in d slots ≡ next d v (state_in d slots)
+  still_next e n v h =
+      sym n ∙ ap (λ (w : Values). next d w (state_in d slots)) (e ∙ sym (known_only d law order o (state_in d slots) pins state fit v h))

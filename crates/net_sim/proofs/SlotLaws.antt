@@ -125,12 +125,12 @@ blocks_run widths W (c ∷ cs) h s i r =
     (subst (λ v. Does widths W Nonblocking late (flat_map (block_writes v) cs) x.after) x.moved.shows y)
 
 -- ---- the state copied, and pins entered
-copied_front : (k : ℕ) (s : List ℕ) → k + k ≤ length s → take k (copied k s) ≡ take k (drop k s)
+pub copied_front : (k : ℕ) (s : List ℕ) → k + k ≤ length s → take k (copied k s) ≡ take k (drop k s)
 copied_front k s l =
     let long : length (take k (drop k s)) ≡ k = length-take-le k (drop k s) (let e = length-drop k s in omega (arith, e, l)) in
     take-append-le k (take k (drop k s)) (drop k s) (omega (arith, long)) ∙ take-take k k (drop k s) (omega arith)
 
-copied_back : (k : ℕ) (s : List ℕ) → k + k ≤ length s → drop k (copied k s) ≡ drop k s
+pub copied_back : (k : ℕ) (s : List ℕ) → k + k ≤ length s → drop k (copied k s) ≡ drop k s
 copied_back k s l =
     let long : length (take k (drop k s)) ≡ k = length-take-le k (drop k s) (let e = length-drop k s in omega (arith, e, l)) in
     ap (λ j. drop j (copied k s)) (sym long) ∙ drop-append_seam (take k (drop k s)) (drop k s)
@@ -150,7 +150,7 @@ entered_take (p ∷ ports) pins zero (x ∷ xs) = refl
 entered_take (p ∷ ports) pins (suc k) (x ∷ xs) =
     ap (λ ys. (if enters p then slice_index pins 0 else x) ∷ ys) (entered_take ports (if enters p then drop 1 pins else pins) k xs)
 
-entered_drop : (ports : List Port) (pins : List ℕ) (k : ℕ) (xs : List ℕ) → length ports ≤ k → drop k (entered ports pins xs) ≡ drop k xs
+pub entered_drop : (ports : List Port) (pins : List ℕ) (k : ℕ) (xs : List ℕ) → length ports ≤ k → drop k (entered ports pins xs) ≡ drop k xs
 entered_drop [] pins k xs l = refl
 entered_drop (p ∷ ports) pins zero xs l = absurd (omega arith)
 entered_drop (p ∷ ports) pins (suc k) [] l = refl

@@ -1,5 +1,5 @@
 -- What a simulator keeps in slots, and its instructions (`net_instr`), listed from the last to the first.
-use Rattle.std.specs.Prelude.{ℕ, List, [], ◌∷◌, ◌++◌, map, take, drop}
+use Rattle.std.specs.Prelude.{◌≡◌, ℕ, ◌+◌, ◌<◌, ◌≤◌, List, [], ◌∷◌, ◌++◌, All, length, map, take, drop, slice_index}
 use Rattle.net_design.specs.declared.act.Code.{Code}
 use Rattle.net_design.specs.declared.design.Net.{Net}
 use Rattle.net_design.specs.declared.design.Driver.{Driver}
@@ -44,3 +44,10 @@ clocking_code d = blocks_code (widths_of d) (word_count d) d.blocks
 -- the first k slots become those behind them
 abbrev pub copied : ℕ → List ℕ → List ℕ
 copied k slots = take k (drop k slots) ++ drop k slots
+
+-- some nets, and all words, of which the first one has slot `first`, have become those behind the first `span` slots
+pub record AreShown (ms : List ℕ) (first span : ℕ) (old new : List ℕ) : Type 0 where
+  pub nets : All (λ m. slice_index new m ≡ slice_index old (span + m)) ms
+  pub words : (k : ℕ) → first ≤ k → k < span → slice_index new k ≡ slice_index old (span + k)
+  pub behind : (k : ℕ) → span ≤ k → slice_index new k ≡ slice_index old k
+  pub long : length new ≡ length old

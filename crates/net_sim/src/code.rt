@@ -4,13 +4,15 @@ ghost use Rattle.std.specs.Prelude.{◌≡◌, ◌+◌, ◌^◌, ◌<◌, ◌≤
 ghost use Rattle.net_instr.specs.Machine.{AreBelow};
 ghost use Rattle.net_instr.specs.Layout.{base};
 ghost use Rattle.net_instr.specs.InPlace.{IsInPlace};
+ghost use Rattle.net_instr.specs.Needs.{IsEnough};
 ghost use Rattle.net_instr.specs.Statements.{IsBlockThere};
 ghost use Rattle.net_design.specs.Lawful.{IsLawful};
 ghost use Rattle.net_order.specs.Order.{IsOrder};
 ghost use Rattle.net_sim.specs.Slots.{span_of, drivers_code, blocks_code, settling_code, clocking_code};
 
+use crate::slots::Copies;
 use net_design::{Code, Design, Driver, Net, count_words};
-use net_instr::{InPlace, Instr, in_place, push_acts, slots_of};
+use net_instr::{InPlace, Instr, in_place, needed, push_acts, slots_of};
 use net_order::vidi_bits::{Items, Memory};
 use std::alloc::Global;
 
@@ -184,8 +186,8 @@ pub fn codes_of(alloc: Global, design: &Design, order: &[u128]) -> Result<Codes,
 pub struct Placed {
     /// The code, and the slot at which each net is read.
     pub made: InPlace,
-    /// The numbers of nets and memory words.
-    pub span: usize,
+    /// What is copied before the drivers' code is run.
+    pub copies: Copies,
     /// How many slots the code takes.
     pub slots: usize,
 }
@@ -196,16 +198,25 @@ pub fn placed_of(alloc: Global, design: &Design, order: &[u128]) -> Result<Place
     requires order { IsOrder design.now order.now }
     ensures made { IfOk result (λ p. IsInPlace (length design.now.nets) (reverse (settling_code design.now order.now))
         (reverse (clocking_code design.now)) p.made.places p.made.settling p.made.clocking) }
-    ensures span { IfOk result (λ p. p.span ≡ span_of design.now) }
+    ensures enough { IfOk result (λ p. IsEnough p.made.places p.made.settling p.copies.nets) }
+    ensures words { IfOk result (λ p. p.copies.words ≡ length design.now.nets) }
+    ensures span { IfOk result (λ p. p.copies.span ≡ span_of design.now) }
     ensures settling_below { IfOk result (λ p. AreBelow p.slots (settling_code design.now order.now)) }
     ensures clocking_below { IfOk result (λ p. AreBelow p.slots (clocking_code design.now)) }
     ensures slots { IfOk result (λ p. span_of design.now + span_of design.now ≤ p.slots) }
 {
     let codes = codes_of(alloc, design, order)?;
     let made = in_place(alloc, codes.settling, codes.clocking, codes.nets)?;
+    let code = made.settling.as_slice();
+    let nets = needed(alloc, code, made.places.as_slice(), codes.nets)?;
+    let copies = Copies {
+        nets,
+        words: codes.nets as usize,
+        span: codes.span,
+    };
     Ok(Placed {
         made,
-        span: codes.span,
+        copies,
         slots: codes.slots,
     })
 }

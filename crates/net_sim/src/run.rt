@@ -1,6 +1,6 @@
 //! Input pins, and numbers copied.
 
-ghost use Rattle.std.specs.Prelude.{◌≡◌, ◌≤◌, ◌<◌, ◌+◌, ◌^◌, length, slice_index, slice_set, if◌then◌else◌};
+ghost use Rattle.std.specs.Prelude.{◌≡◌, IsTrue, ◌≤◌, ◌<◌, ◌+◌, ◌^◌, length, slice_index, slice_set, if◌then◌else◌};
 ghost use Rattle.net_order.specs.Run.{enters, entered};
 
 use net_design::{Direction, Port};
@@ -50,4 +50,11 @@ pub fn copy_numbers(from: &[u128], to: &mut Numbers)
     for (i, number) in from.iter().enumerate() {
         to.set(i, *number);
     }
+}
+
+/// Whether something is known of pins, and other pins are the same.
+pub fn is_done(known: bool, pins: &[u128], given: &[u128]) -> bool
+    ensures { IsTrue result → IsTrue known × (given.now ≡ pins.now) }
+{
+    known && given == pins
 }

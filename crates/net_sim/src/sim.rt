@@ -2,7 +2,7 @@
 
 ghost use Rattle.std.specs.Prelude.{◌≡◌, ℕ, ◌+◌, ◌<◌, ◌≤◌, ◌++◌, List, None, IsTrue, IfOk, MatchOption, length, slice_index, reverse};
 ghost use Rattle.net_design.specs.declared.design.Direction.TheVariants.{Output};
-ghost use Rattle.net_design.specs.Settled.{initial, word_count};
+ghost use Rattle.net_design.specs.Settled.{initial, next, word_count};
 ghost use Rattle.net_design.specs.Lawful.{IsLawful, IsState};
 ghost use Rattle.net_design.specs.Pins.{FitPins, no_pins};
 ghost use Rattle.net_order.specs.Order.{IsOrder};
@@ -10,6 +10,7 @@ ghost use Rattle.net_order.specs.Run.{settled_by};
 ghost use Rattle.net_instr.specs.Machine.{AreBelow};
 ghost use Rattle.net_instr.specs.Layout.{IsReady};
 ghost use Rattle.net_instr.specs.InPlace.{through, IsInPlace};
+ghost use Rattle.net_instr.specs.Needs.{IsEnough};
 ghost use Rattle.net_sim.specs.Places.{port_places};
 ghost use Rattle.net_sim.specs.Names.{IsCalled};
 ghost use Rattle.net_sim.specs.Table.{IsTable};
@@ -18,8 +19,8 @@ ghost use Rattle.net_sim.specs.Slots.{widths_of, span_of, shown_in, state_in, se
 use crate::code::placed_of;
 use crate::names::net_called;
 use crate::number::number_seen;
-use crate::run::copy_numbers;
-use crate::slots::{first_slots, load_slots, run_slots, settle_again, settle_slots};
+use crate::run::{copy_numbers, is_done};
+use crate::slots::{Copies, first_slots, load_slots, run_noted, settle_again, settle_slots};
 use crate::start::{clear, first_numbers, places_of, zero_pins};
 use crate::table::{Table, table_of};
 use net_design::{Block, Design, Direction};
@@ -38,8 +39,8 @@ pub struct Sim {
     clocking: Items<Instr>,
     /// The slot at which each net is read.
     places: Items<u32>,
-    /// The numbers of nets and memory words.
-    span: usize,
+    /// What is copied before the drivers' instructions are run.
+    copies: Copies,
     slots: Numbers,
     /// The initial state.
     first: Numbers,
@@ -51,12 +52,16 @@ pub struct Sim {
     names: Table,
     /// Whether what is shown is settled for the state and the inputs.
     fresh: bool,
+    /// Whether that holds, and the next state is the state.
+    still: bool,
     ghost lawful: { ∥ IsLawful design ∥₁ },
     ghost ordered: { ∥ IsOrder design order.drivers ∥₁ },
     ghost placed: { ∥ IsInPlace (length design.nets) (reverse (settling_code design order.drivers)) (reverse (clocking_code design)) places settling clocking ∥₁ },
     ghost settling_below: { ∥ AreBelow (length (through places slots)) (settling_code design order.drivers) ∥₁ },
     ghost clocking_below: { ∥ AreBelow (length (through places slots)) (clocking_code design) ∥₁ },
-    ghost span_is: { span ≡ span_of design },
+    ghost enough: { ∥ IsEnough places settling copies.nets ∥₁ },
+    ghost words_is: { copies.words ≡ length design.nets },
+    ghost span_is: { copies.span ≡ span_of design },
     ghost ready: { IsReady (widths_of design) (word_count design) (through places slots) },
     ghost first_is: { first ≡ (initial design).nets ++ (initial design).words },
     ghost is_state: { IsState design (state_in design (through places slots)) },
@@ -64,6 +69,7 @@ pub struct Sim {
     ghost are_outputs: { outputs ≡ port_places Output 0 design.ports },
     ghost named: { IsTable design.instances design.nets (length design.nets) names.entries },
     ghost settled: { IsTrue fresh → shown_in design (through places slots) ≡ settled_by design order.drivers (state_in design (through places slots)) pins },
+    ghost quiet: { IsTrue still → IsTrue fresh × (next design (shown_in design (through places slots)) (state_in design (through places slots)) ≡ state_in design (through places slots)) },
 }
 
 /// Written out, so that the drops of its parts are proved here and not in each crate that lets go of one.
@@ -75,13 +81,14 @@ impl Drop for Sim {
             settling,
             clocking,
             places,
-            span,
+            copies,
             slots,
             first,
             pins,
             outputs,
             names,
             fresh,
+            still,
         } = self;
     }
 }
@@ -97,7 +104,7 @@ impl Sim {
     {
         let codes = placed_of(alloc, &design, order.drivers.as_slice())?;
         let first = first_numbers(alloc, &design)?;
-        let slots = first_slots(alloc, codes.slots, codes.span, first.as_slice())?;
+        let slots = first_slots(alloc, codes.slots, codes.copies.span, first.as_slice())?;
         let pins = zero_pins(alloc, design.ports.as_slice())?;
         let outputs = places_of(alloc, Direction::Output, design.ports.as_slice())?;
         let names = table_of(alloc, design.instances.as_slice(), design.nets.as_slice())?;
@@ -107,13 +114,14 @@ impl Sim {
             settling: codes.made.settling,
             clocking: codes.made.clocking,
             places: codes.made.places,
-            span: codes.span,
+            copies: codes.copies,
             slots,
             first,
             pins,
             outputs,
             names,
             fresh: false,
+            still: false,
         })
     }
 
@@ -157,11 +165,16 @@ impl Block for Sim {
     ghost are_inputs = { λ sim. sim.are_pins };
 
     fn settle(&mut self, pins: &[u128]) {
+        let done = is_done(self.fresh, self.pins.as_slice(), pins);
+        if done {
+            return;
+        }
         self.fresh = false;
+        self.still = false;
         copy_numbers(pins, &mut self.pins);
         let code = self.settling.as_slice();
         let ports = self.design.ports.as_slice();
-        settle_slots(code, ports, pins, self.span, &mut self.slots);
+        settle_slots(code, ports, pins, &self.copies, &mut self.slots);
         self.fresh = true;
     }
 
@@ -171,17 +184,22 @@ impl Block for Sim {
     }
 
     fn clock(&mut self) {
+        if self.still {
+            return;
+        }
         let code = self.settling.as_slice();
         let ports = self.design.ports.as_slice();
         let pins = self.pins.as_slice();
-        settle_again(self.fresh, code, ports, pins, self.span, &mut self.slots);
-        self.fresh = false;
-        run_slots(self.clocking.as_slice(), &mut self.slots);
+        settle_again(self.fresh, code, ports, pins, &self.copies, &mut self.slots);
+        let moved = run_noted(self.clocking.as_slice(), &mut self.slots, self.copies.span);
+        self.fresh = !moved;
+        self.still = !moved;
     }
 
     fn load(&mut self) {
         self.fresh = false;
-        load_slots(&mut self.slots, self.span, self.first.as_slice());
+        self.still = false;
+        load_slots(&mut self.slots, self.copies.span, self.first.as_slice());
         clear(&mut self.pins);
     }
 }

@@ -22,17 +22,24 @@ use Rattle.trace_code.proofs.trace_model_lemmas.RowLaws.{counted}
 use Rattle.net_design.specs.declared.design.Design.{Design}
 use Rattle.net_design.specs.declared.values.Values.{Values}
 use Rattle.run_stage.specs.chan_map.declared.pins.Map.{Map}
+use Rattle.run_stage.specs.chan_replayer.Shell.{IsRunning}
 use Rattle.run_stage.specs.run_model.Held.{flies}
 use Rattle.run_stage.specs.run_model.Played.{AreStable, IsPlayed, StopsBefore}
 use Rattle.run_stage.specs.run_model.Replay.{done, HasEnded, IsGoing, IsReplay, IsReplayRow}
 use Rattle.run_stage.specs.declared.ending.Ending.{Ending}
 use Rattle.run_stage.specs.declared.ending.Ending.TheVariants.{Done, Unstable, Whole}
-use Rattle.run_stage.specs.Playing.{AreRuled, Came, HasCome, IsLast, Plays, Stops}
+use Rattle.run_stage.specs.Playing.{AreRuled, Begins, Came, HasCome, IsLast, Plays, Stops}
 use Rattle.run_stage.proofs.run_model_lemmas.ReplayLaws.{replay-keeps}
 use Rattle.run_stage.proofs.run_model_lemmas.Stays.{keeps-in-flight}
 use Rattle.replay_run.specs.declared.feeder.Feeder.{Feeder}
 use Rattle.replay_run.specs.Behind.{IsDone}
 use Rattle.replay_run.specs.Standing.{AreKept, IsAt, IsNextRow, PlaysTo, SaysEnded, StandsBehind}
+
+-- ---- a shell that was reset
+pub has-begun : (m given : Map) (was runs : Design → Values → List Row → Type 0) → given ≡ m → ∥ IsRunning was ∥₁
+    → ((d : Design) (s : Values) (rows : List Row) → was d s rows → Begins d given runs) → ∥ ((d : Design) × Begins d m runs) ∥₁
+has-begun m given was runs same running first = ∥∥₁_map {B = (d : Design) × Begins d m runs} running
+    (λ (r : IsRunning was). (r.0, subst (λ (n : Map). Begins r.0 n runs) same (first r.0 r.1 r.2 r.3)))
 
 -- ---- whether the trace has ended
 pub flight-last : (o : Option Row) (last : Row) (c : ℕ) → IsLast o last → is_in_flight last c ≡ flies_after o c

@@ -18,6 +18,7 @@ mod replaying;
 pub use laws::one_outcome;
 pub use outcome::{ReplayOutcome, Replayed};
 pub use replaying::replay;
+pub use run_stage;
 pub use run_stage::chan_replayer::{Feed, Needs, ReplayMachines, ReplayShell};
 pub use run_stage::run_model::{Await, Awaits, Held, Helds};
 pub use run_stage::{chan_map, chan_monitor, chan_replayer, run_model};

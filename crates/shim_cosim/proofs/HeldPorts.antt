@@ -24,7 +24,7 @@ use Rattle.replay_run.specs.run_model.Pins.{reset_input}
 use Rattle.shim_gen.specs.shim_trees.Links.{tied, tied_input, tied_port, tied_link, tied_ports, held, reset_width, tie_width, channel_links, link}
 use Rattle.shim_gen.specs.shim_trees.Pieces.{each_some}
 use Rattle.replay_run.specs.trace_model.declared.channel.Channel.{Channel}
-use Rattle.shim_step.proofs.shim_design_lemmas.Elements.{Has, has_left, has_right, has_map, mapped, found, Apart, apart_front}
+use Rattle.shim_step.proofs.Elements.{Has, has_left, has_right, has_map, mapped, found, Apart, apart_front}
 use Rattle.shim_step.specs.Wrapped.{IsWrapped}
 use Rattle.shim_step.specs.Ports.{HasHeld}
 use Rattle.shim_step.proofs.Dut.{behind}

@@ -21,6 +21,7 @@ mod ReplayCycle
 mod Rerun
 mod Recalls
 mod SameReplays
+pub use Rattle.replay_run.proofs as replay_run_lemmas
 pub use Rattle.replay_run.proofs.chan_monitor_lemmas as chan_monitor_lemmas
 pub use Rattle.replay_run.proofs.run_model_lemmas as run_model_lemmas
 pub use Rattle.replay_run.proofs.trace_model_lemmas as trace_model_lemmas

@@ -25,9 +25,9 @@ use Rattle.net_design.specs.Settled.{pins_of}
 use Rattle.vlog_design.specs.flat_parts.Meaning.{values_of}
 use Rattle.vlog_design.specs.flat_parts.Nets.{port_of, flat_ports}
 use Rattle.shim_gen.specs.shim_trees.Pieces.{range_of}
-use Rattle.shim_step.specs.shim_design.Plain.{net_named, extent, nets_of, IsPlain}
-use Rattle.shim_step.proofs.shim_design_lemmas.Elements.{Has, found}
-use Rattle.shim_step.proofs.shim_design_lemmas.Standing.{port_net, plain_nets_differ, plain_scope}
+use Rattle.shim_step.specs.Plain.{net_named, extent, nets_of, IsPlain}
+use Rattle.shim_step.proofs.Elements.{Has, found}
+use Rattle.shim_step.proofs.Standing.{port_net, plain_nets_differ, plain_scope}
 use Rattle.shim_step.proofs.Texts.{range_width}
 use Rattle.shim_cosim.proofs.Zips.{ways_of, ways_append, first_path, named_from}
 

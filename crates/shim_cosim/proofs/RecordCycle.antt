@@ -41,7 +41,7 @@ use Rattle.replay_run.proofs.chan_monitor_lemmas.RowOfCycle.{first-none, first-s
 use Rattle.shim_gen.specs.shim_trees.Pieces.{numbered, each_some, upto}
 use Rattle.shim_gen.specs.shim_trees.RecordTop.{record_ports, record_name, record_top}
 use Rattle.shim_gen.specs.shim_trees.Wrapped.{wrapped}
-use Rattle.shim_step.specs.shim_design.Part.{pins_below}
+use Rattle.shim_step.specs.Part.{pins_below}
 use Rattle.shim_step.specs.Wrapped.{DUT, Flies}
 use Rattle.shim_step.specs.Ports.{HasContent, ShowsContent}
 use Rattle.shim_step.specs.Recording.{own_state, Records}

@@ -41,9 +41,9 @@ use Rattle.shim_gen.specs.shim_trees.Links.{held, tied_ports}
 use Rattle.shim_gen.specs.shim_trees.Monitor.{monitor, gates, events}
 use Rattle.shim_gen.specs.shim_trees.RecordTop.{record_ports, record_name, record_top, monitor_conns}
 use Rattle.shim_gen.specs.shim_trees.Wrapped.{wrapped}
-use Rattle.shim_step.specs.shim_design.Plain.{IsPlain}
-use Rattle.shim_step.proofs.shim_design_lemmas.Elements.{has_right, has_contains}
-use Rattle.shim_step.proofs.shim_design_lemmas.Standing.{plain_scope, has_placed}
+use Rattle.shim_step.specs.Plain.{IsPlain}
+use Rattle.shim_step.proofs.Elements.{has_right, has_contains}
+use Rattle.shim_step.proofs.Standing.{plain_scope, has_placed}
 use Rattle.shim_step.specs.Wrapped.{IsWrapped}
 use Rattle.shim_step.specs.Ports.{HasHeld, HasOffer, HasOffers, HasReset}
 use Rattle.shim_step.specs.Recording.{IsCycleOf}

@@ -17,9 +17,9 @@ use Rattle.replay_run.proofs.run_model_lemmas.RowParts.{channel-at}
 use Rattle.shim_gen.specs.shim_trees.Pieces.{numbered, upto, reg, at_clock, conn}
 use Rattle.shim_gen.specs.shim_trees.Replayer.{counting, shown_items, replayer}
 use Rattle.shim_gen.specs.shim_trees.ReplayTop.{replay_top, replayer_conns}
-use Rattle.shim_step.specs.shim_design.Plain.{IsPlain}
-use Rattle.shim_step.proofs.shim_design_lemmas.Elements.{Has, has_right, has_contains}
-use Rattle.shim_step.proofs.shim_design_lemmas.Standing.{has_placed, plain_scope}
+use Rattle.shim_step.specs.Plain.{IsPlain}
+use Rattle.shim_step.proofs.Elements.{Has, has_right, has_contains}
+use Rattle.shim_step.proofs.Standing.{has_placed, plain_scope}
 use Rattle.shim_step.specs.Wrapped.{IsWrapped}
 use Rattle.shim_step.proofs.Files as files
 use Rattle.shim_step.proofs.Stand.{I, child_of}

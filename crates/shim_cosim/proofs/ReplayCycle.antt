@@ -46,8 +46,8 @@ use Rattle.shim_gen.specs.shim_trees.Pieces.{numbered, numbered_twice, each_some
 use Rattle.shim_gen.specs.shim_trees.Links.{held, tied_ports}
 use Rattle.shim_gen.specs.shim_trees.ReplayTop.{fed_ports, shown_ports, replay_ports, replay_name, replay_top}
 use Rattle.shim_gen.specs.shim_trees.Wrapped.{wrapped}
-use Rattle.shim_step.specs.shim_design.Part.{pins_below}
-use Rattle.shim_step.proofs.shim_design_lemmas.Elements.{Has}
+use Rattle.shim_step.specs.Part.{pins_below}
+use Rattle.shim_step.proofs.Elements.{Has}
 use Rattle.shim_step.specs.Wrapped.{IsWrapped, DUT, Counts}
 use Rattle.shim_step.specs.Ports.{HasFeed, HasNoFeed}
 use Rattle.shim_step.specs.Recording.{own_state, IsCycleOf}

@@ -23,11 +23,11 @@ use Rattle.shim_step.specs.vlog_meaning.Names.{Full, State, words_from}
 use Rattle.vlog_design.specs.flat_parts.Built.{IsBuilt}
 use Rattle.vlog_design.specs.flat_parts.Laws.{IsTop}
 use Rattle.vlog_design.specs.flat_parts.Meaning.{memory_words, values_of, state_of, AreNarrow}
-use Rattle.shim_step.specs.shim_design.Maps.{IsListOf}
+use Rattle.shim_step.specs.Maps.{IsListOf}
 use Rattle.net_sim.specs.vidi_bits.Number.{IsWidth}
-use Rattle.shim_step.proofs.shim_design_lemmas.Elements.{Has, has_contains, all_members, at_member}
-use Rattle.shim_step.proofs.shim_design_lemmas.Maps.{lists_are_maps}
-use Rattle.shim_step.proofs.shim_design_lemmas.Memories.{memories_differ}
+use Rattle.shim_step.proofs.Elements.{Has, has_contains, all_members, at_member}
+use Rattle.shim_step.proofs.Maps.{lists_are_maps}
+use Rattle.shim_step.proofs.Memories.{memories_differ}
 
 -- ---- numbers of at most 128 bits
 abbrev clamp_by : Bool → ℕ → ℕ

@@ -23,7 +23,9 @@ pub use net_sim;
 pub use net_sim::net_order;
 pub use records::records_alike;
 pub use replay_run;
-pub use replay_run::{chan_map, chan_monitor, chan_replayer, run_model, trace_code, trace_model};
+pub use replay_run::{
+    chan_map, chan_monitor, chan_replayer, run_model, run_stage, trace_code, trace_model,
+};
 pub use replays::replays_alike;
 pub use rewrapped::{RerunShell, Rewrapped};
 pub use shim_gen;

@@ -18,7 +18,7 @@ pub use report_text;
 pub use report_text::vidi_io;
 pub use shim_cosim;
 pub use shim_cosim::{
-    chan_map, chan_monitor, chan_replayer, env_script, net_sim, trace_model, vidi_lines,
+    chan_map, chan_monitor, chan_replayer, env_script, net_sim, run_stage, trace_model, vidi_lines,
 };
 pub use stages::{Stage, stage_in};
 pub use texts::{cycles_of, lines_in, put_net};

@@ -13,18 +13,18 @@ use Rattle.net_design.specs.declared.values.Target.TheVariants as targets
 use Rattle.net_design.specs.declared.values.Update.{Update}
 use Rattle.net_design.specs.declared.values.Values.{Values}
 use Rattle.net_design.specs.Updates.{apply, update}
-use Rattle.shim_design.specs.vlog_block.Targets.{target_updates, source_updates}
-use Rattle.shim_design.specs.vlog_block.declared.source.Source.{Source}
-use Rattle.shim_design.specs.vlog_meaning.Names.{Full, State, numbers_at}
-use Rattle.shim_design.specs.vlog_meaning.Placed.{Placed, placed, names_at}
-use Rattle.shim_design.specs.vlog_meaning.Next.{IsNext, item_updates, clocked_updates}
+use Rattle.flat_parts.specs.vlog_block.Targets.{target_updates, source_updates}
+use Rattle.flat_parts.specs.vlog_block.declared.source.Source.{Source}
+use Rattle.flat_parts.specs.vlog_meaning.Names.{Full, State, numbers_at}
+use Rattle.flat_parts.specs.vlog_meaning.Placed.{Placed, placed, names_at}
+use Rattle.flat_parts.specs.vlog_meaning.Next.{IsNext, item_updates, clocked_updates}
 use Rattle.shim_trees.specs.Pieces.{Name, ident, target}
-use Rattle.shim_design.specs.Plain.{nets_of}
-use Rattle.shim_design.specs.Nets.{IsNet}
-use Rattle.shim_design.proofs.Elements.{Found, place_some}
-use Rattle.shim_design.proofs.Scopes.{bare}
-use Rattle.shim_design.proofs.Standing as standing
-use Rattle.shim_design.proofs.Whole.{source}
+use Rattle.shim_step.specs.Plain.{nets_of}
+use Rattle.shim_step.specs.Nets.{IsNet}
+use Rattle.shim_step.proofs.Elements.{Found, place_some}
+use Rattle.shim_step.proofs.Scopes.{bare}
+use Rattle.shim_step.proofs.Standing as standing
+use Rattle.shim_step.proofs.Whole.{source}
 use Rattle.shim_step.proofs.Stand.{Stand, HasNet, V}
 
 -- ---- one whole register gets a number

@@ -16,13 +16,13 @@ use Rattle.net_design.specs.declared.values.Target.TheVariants as targets
 use Rattle.net_design.specs.declared.values.Update.{Update}
 use Rattle.net_design.specs.declared.values.Values.{Values}
 use Rattle.net_design.specs.Updates.{apply, update, written_to}
-use Rattle.shim_design.specs.vlog_block.Value.{value, width_of}
-use Rattle.shim_design.specs.vlog_block.Targets.{target_width, target_updates}
-use Rattle.shim_design.specs.vlog_block.Updates.{stmts_updates}
+use Rattle.flat_parts.specs.vlog_block.Value.{value, width_of}
+use Rattle.flat_parts.specs.vlog_block.Targets.{target_width, target_updates}
+use Rattle.flat_parts.specs.vlog_block.Updates.{stmts_updates}
 use Rattle.shim_trees.specs.Pieces.{numbered, ident, net, target, both}
 use Rattle.shim_trees.specs.Replayer.{covers, covering, counting}
-use Rattle.shim_design.specs.Nets.{IsNet}
-use Rattle.shim_design.proofs.Whole.{read_width, read_number, target_bits}
+use Rattle.shim_step.specs.Nets.{IsNet}
+use Rattle.shim_step.proofs.Whole.{read_width, read_number, target_bits}
 use Rattle.shim_step.proofs.Clocked.{one_update}
 
 -- counters from i on have reached what is needed

@@ -13,10 +13,10 @@ use Rattle.net_design.specs.declared.values.Values.{Values}
 use Rattle.net_design.specs.Names.{net_names}
 use Rattle.net_design.specs.Pins.{outputs}
 use Rattle.net_design.specs.Settled as design
-use Rattle.shim_design.specs.vlog_meaning.Names.{Name, Full, State}
-use Rattle.shim_design.specs.vlog_meaning.Next.{IsNext, IsInitial}
-use Rattle.shim_design.specs.vlog_meaning.Settled.{IsSettled}
-use Rattle.shim_design.specs.flat_parts.Meaning.{values_of, AreNarrow}
+use Rattle.flat_parts.specs.vlog_meaning.Names.{Name, Full, State}
+use Rattle.flat_parts.specs.vlog_meaning.Next.{IsNext, IsInitial}
+use Rattle.flat_parts.specs.vlog_meaning.Settled.{IsSettled}
+use Rattle.flat_parts.specs.Meaning.{values_of, AreNarrow}
 use Rattle.chan_replayer.specs.trace_model.declared.channel.Channel.{Channel}
 use Rattle.chan_replayer.specs.trace_model.declared.channel.Dir.{Dir}
 use Rattle.chan_replayer.specs.trace_model.declared.row.Offers.{Offers}
@@ -35,9 +35,9 @@ use Rattle.chan_replayer.proofs.run_model_lemmas.PlayedLaws.{row-step, fit-outpu
 use Rattle.chan_replayer.proofs.run_model_lemmas.RowParts.{row-over, row-marked, row-shows, row-carries, small-row, has-plug, HasPlug}
 use Rattle.chan_replayer.specs.chan_monitor.Shell.{IsShown}
 use Rattle.shim_trees.specs.Links.{link, links, plug_links}
-use Rattle.shim_design.specs.Part.{under, part, pins_below}
-use Rattle.shim_design.proofs.Part.{part_is_next, part_is_initial}
-use Rattle.shim_design.proofs.Elements.{Has}
+use Rattle.shim_step.specs.Part.{under, part, pins_below}
+use Rattle.shim_step.proofs.Part.{part_is_next, part_is_initial}
+use Rattle.shim_step.proofs.Elements.{Has}
 use Rattle.shim_step.specs.Wrapped.{IsWrapped, DUT}
 use Rattle.shim_step.specs.Recording.{own_state}
 use Rattle.shim_step.proofs.Files as files

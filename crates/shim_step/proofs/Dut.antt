@@ -7,25 +7,25 @@ use Rattle.vlog_tree.specs.Tree.{PortOf, ConnOf, ModuleOf}
 use Rattle.shim_trees.specs.vlog_size.declared.scope.ScopeNet.{ScopeNet}
 use Rattle.shim_trees.specs.vlog_size.declared.scope.Scope.{Scope}
 use Rattle.shim_trees.specs.vlog_size.Table.{Named, value_of}
-use Rattle.shim_design.specs.vlog_names.declared.declaration.Declaration.{Declaration}
-use Rattle.shim_design.specs.vlog_names.Entries.{no_port, port_as, port_entries, declared}
-use Rattle.shim_design.specs.vlog_names.Twice.{twice_in}
-use Rattle.shim_design.specs.vlog_scope.Scope.{scope_with}
+use Rattle.flat_parts.specs.vlog_names.declared.declaration.Declaration.{Declaration}
+use Rattle.flat_parts.specs.vlog_names.Entries.{no_port, port_as, port_entries, declared}
+use Rattle.flat_parts.specs.vlog_names.Twice.{twice_in}
+use Rattle.flat_parts.specs.vlog_scope.Scope.{scope_with}
 use Rattle.net_design.specs.declared.design.Port.{Port}
-use Rattle.shim_design.specs.vlog_meaning.Names.{Full, State, numbers_at}
-use Rattle.shim_design.specs.vlog_meaning.Placed.{names_at}
-use Rattle.shim_design.specs.vlog_meaning.Instances.{IsAt}
-use Rattle.shim_design.specs.vlog_meaning.Settled.{IsSettled}
-use Rattle.shim_design.specs.vlog_meaning.Next.{net_width}
-use Rattle.shim_design.specs.flat_parts.Nets.{flat_ports, port_of}
-use Rattle.shim_design.proofs.flat_parts_lemmas.Ports.{ports_first}
+use Rattle.flat_parts.specs.vlog_meaning.Names.{Full, State, numbers_at}
+use Rattle.flat_parts.specs.vlog_meaning.Placed.{names_at}
+use Rattle.flat_parts.specs.vlog_meaning.Instances.{IsAt}
+use Rattle.flat_parts.specs.vlog_meaning.Settled.{IsSettled}
+use Rattle.flat_parts.specs.vlog_meaning.Next.{net_width}
+use Rattle.flat_parts.specs.Nets.{flat_ports, port_of}
+use Rattle.flat_parts.proofs.Ports.{ports_first}
 use Rattle.shim_trees.specs.Pieces.{Name, ident, net, conn}
 use Rattle.shim_trees.specs.Links.{dut, dut_conn}
-use Rattle.shim_design.specs.Plain.{IsPlain}
-use Rattle.shim_design.specs.Part.{HasPart}
-use Rattle.shim_design.proofs.Elements.{Has, has_map, mapped, Apart}
-use Rattle.shim_design.proofs.PortNets.{port_net}
-use Rattle.shim_design.proofs.Whole.{nets_are_joined}
+use Rattle.shim_step.specs.Plain.{IsPlain}
+use Rattle.shim_step.specs.Part.{HasPart}
+use Rattle.shim_step.proofs.Elements.{Has, has_map, mapped, Apart}
+use Rattle.shim_step.proofs.PortNets.{port_net}
+use Rattle.shim_step.proofs.Whole.{nets_are_joined}
 use Rattle.shim_step.specs.Wrapped.{DUT}
 use Rattle.shim_step.proofs.Stand.{HasNet, at_top, R, V, I, child_of, is_at, conns_hold, joint, is_net}
 

@@ -9,17 +9,17 @@ use Rattle.std.proofs.lemmas.List.Elements.{All-from_recursion}
 use Rattle.std.proofs.lemmas.List.{ext_get_or}
 use Rattle.vlog_tree.specs.Tree.{ModuleOf}
 use Rattle.shim_trees.specs.vlog_size.Table.{Named, value_of}
-use Rattle.shim_design.specs.vlog_names.Entries.{Names, no_port, port_entries}
-use Rattle.shim_design.specs.vlog_names.declared.declaration.Declaration.{Declaration}
-use Rattle.shim_design.specs.vlog_scope.Scope.{scope_with}
+use Rattle.flat_parts.specs.vlog_names.Entries.{Names, no_port, port_entries}
+use Rattle.flat_parts.specs.vlog_names.declared.declaration.Declaration.{Declaration}
+use Rattle.flat_parts.specs.vlog_scope.Scope.{scope_with}
 use Rattle.net_design.specs.declared.design.Design.{Design}
 use Rattle.net_design.specs.declared.design.Port.{Port}
 use Rattle.net_design.specs.declared.design.Direction.TheVariants.{Input, Output}
 use Rattle.net_design.specs.Settled.{same_direction, pins_of}
 use Rattle.net_design.specs.Pins.{input_limits}
-use Rattle.shim_design.specs.vlog_meaning.Names.{Full, State}
-use Rattle.shim_design.specs.vlog_meaning.Settled.{IsSettled, inputs_of}
-use Rattle.shim_design.specs.flat_parts.Nets.{flat_ports, port_of}
+use Rattle.flat_parts.specs.vlog_meaning.Names.{Full, State}
+use Rattle.flat_parts.specs.vlog_meaning.Settled.{IsSettled, inputs_of}
+use Rattle.flat_parts.specs.Nets.{flat_ports, port_of}
 use Rattle.chan_replayer.specs.trace_model.declared.channel.Channel.{Channel}
 use Rattle.chan_replayer.specs.trace_model.declared.channel.Dir.{Dir}
 use Rattle.chan_replayer.specs.trace_model.declared.channel.Dir.TheVariants.{Inward, Outward}
@@ -39,10 +39,10 @@ use Rattle.chan_replayer.specs.run_model.MapOf.{IsMapOf}
 use Rattle.chan_replayer.specs.run_model.Pins.{pin_number, shown_number, reset_input, tie_input, plug_inputs, inputs_from, entered, ArePins}
 use Rattle.chan_replayer.proofs.run_model_lemmas.PinLemmas.{pin-at, ways, input-count, stands, are-pins, all-at}
 use Rattle.net_order.proofs.vidi_bits_lemmas.Each.{each_append}
-use Rattle.shim_design.proofs.flat_parts_lemmas.Ports.{pins_are, port_number}
+use Rattle.flat_parts.proofs.Ports.{pins_are, port_number}
 use Rattle.shim_trees.specs.Pieces.{Name}
-use Rattle.shim_design.specs.Part.{pins_below}
-use Rattle.shim_design.proofs.Elements.{Mapped, mapped, get_map}
+use Rattle.shim_step.specs.Part.{pins_below}
+use Rattle.shim_step.proofs.Elements.{Mapped, mapped, get_map}
 use Rattle.shim_step.specs.Wrapped.{DUT}
 use Rattle.shim_step.proofs.Stand.{HasNet}
 use Rattle.shim_step.proofs.Dut.{HasDut, at_dut, port_joined}

@@ -7,23 +7,23 @@ use Rattle.std.proofs.lemmas.Slice.Eq.{bytes_eq-Decides}
 use Rattle.net_order.proofs.vidi_bits_lemmas.Lists.{nil_left, nil_right}
 use Rattle.vlog_tree.specs.Tree.{ModuleOf, FileOf}
 use Rattle.shim_trees.specs.vlog_size.Table.{Named}
-use Rattle.shim_design.specs.vlog_hierarchy.Outlines.{place_from}
-use Rattle.shim_design.specs.vlog_names.Entries.{Names, declared, module_entry, modules_of}
-use Rattle.shim_design.specs.vlog_names.Twice.{twice_name, twice_in, twice_modules, twice_names}
-use Rattle.shim_design.specs.vlog_names.Different.{Differ}
-use Rattle.shim_design.proofs.vlog_names_lemmas.Different.{modules_differ, names_differ}
+use Rattle.flat_parts.specs.vlog_hierarchy.Outlines.{place_from}
+use Rattle.flat_parts.specs.vlog_names.Entries.{Names, declared, module_entry, modules_of}
+use Rattle.flat_parts.specs.vlog_names.Twice.{twice_name, twice_in, twice_modules, twice_names}
+use Rattle.flat_parts.specs.vlog_names.Different.{Differ}
+use Rattle.flat_parts.proofs.vlog_names_lemmas.Different.{modules_differ, names_differ}
 use Rattle.chan_replayer.specs.trace_model.declared.channel.Channel.{Channel}
 use Rattle.chan_replayer.specs.chan_map.declared.pins.Map.{Map}
 use Rattle.net_design.specs.declared.design.Design.{Design}
-use Rattle.shim_design.specs.flat_parts.Laws.{IsTop}
+use Rattle.flat_parts.specs.Laws.{IsTop}
 use Rattle.shim_trees.specs.Pieces.{Name, each_some}
 use Rattle.shim_trees.specs.Monitor.{monitor}
 use Rattle.shim_trees.specs.Replayer.{replayer}
 use Rattle.shim_trees.specs.RecordTop.{record_top}
 use Rattle.shim_trees.specs.ReplayTop.{replay_top}
 use Rattle.shim_trees.specs.Wrapped.{channel_shims, shims, ports_in, module_named, wrapped}
-use Rattle.shim_design.specs.Part.{Extends}
-use Rattle.shim_design.proofs.Elements.{Has, has_left, has_right, has_contains, contains_has, at_member, has_map, Apart, apart_from}
+use Rattle.shim_step.specs.Part.{Extends}
+use Rattle.shim_step.proofs.Elements.{Has, has_left, has_right, has_contains, contains_has, at_member, has_map, Apart, apart_from}
 use Rattle.shim_step.specs.Wrapped.{IsWrapped}
 use Rattle.shim_step.proofs.Lists.{has_some}
 

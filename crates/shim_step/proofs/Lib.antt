@@ -1,3 +1,15 @@
+pub mod Elements
+pub mod Scopes
+pub mod Declared
+pub mod Whole
+pub mod Standing
+pub mod Part
+pub mod PortNets
+pub mod FlatPart
+pub mod Beside
+pub mod Maps
+pub mod Initial
+pub mod Memories
 pub mod Texts
 pub mod Lists
 pub mod Bits
@@ -19,4 +31,3 @@ pub mod Replaying
 pub mod RecordResets
 pub mod ReplayResets
 pub mod OneRow
-pub use Rattle.shim_design.proofs as shim_design_lemmas

@@ -26,8 +26,8 @@ use Rattle.chan_replayer.specs.chan_map.Places.{places, plug_places, plugs_place
 use Rattle.chan_replayer.specs.run_model.MapOf.{IsMapOf}
 use Rattle.shim_trees.specs.Pieces.{Name, each, each_some, numbered_twice}
 use Rattle.shim_trees.specs.Links.{link, tied_link, plug_links, channel_links, links, reset_width, tie_width, held}
-use Rattle.shim_design.proofs.flat_parts_lemmas.SettledLists.{map_map}
-use Rattle.shim_design.proofs.Elements.{Distinct, distinct_from, distinct_front, Has, has_left, has_right, has_map, found, Apart}
+use Rattle.flat_parts.proofs.SettledLists.{map_map}
+use Rattle.shim_step.proofs.Elements.{Distinct, distinct_from, distinct_front, Has, has_left, has_right, has_map, found, Apart}
 use Rattle.shim_step.proofs.Lists.{has_some, in_option}
 
 abbrev names : {V : Type 0} → List (Named V) → List Name

@@ -5,7 +5,7 @@ use Rattle.std.specs.List.{AllByRecursion}
 use Rattle.std.specs.Option.{option_to_list}
 use Rattle.net_order.proofs.vidi_bits_lemmas.Each.{each_append}
 use Rattle.shim_trees.specs.Pieces.{each, each_some, upto}
-use Rattle.shim_design.proofs.Elements.{Has, has_left, has_right}
+use Rattle.shim_step.proofs.Elements.{Has, has_left, has_right}
 
 module _ {X Y : Type 0} where
   pub has_each : (f : ℕ → Y → X) (k : ℕ) (ys : List Y) (j : ℕ) (y : Y) (i : ℕ) → i ≡ k + j → slice_get ys j ≡ Some y

@@ -9,26 +9,26 @@ use Rattle.net_order.proofs.vidi_bits_lemmas.Each.{each_append}
 use Rattle.vlog_tree.specs.Tree.{PortOf, ItemOf, ModuleOf, ExprOf}
 use Rattle.vlog_tree.specs.declared.module.Direction.TheVariants.{Input}
 use Rattle.shim_trees.specs.vlog_size.Names.{Readable}
-use Rattle.shim_design.specs.vlog_names.declared.declaration.Shape.TheVariants.{Scalar}
-use Rattle.shim_design.specs.vlog_names.Entries.{declared}
-use Rattle.shim_design.specs.vlog_names.Ports.{has_reg}
-use Rattle.shim_design.specs.vlog_names.Different.{Differ}
+use Rattle.flat_parts.specs.vlog_names.declared.declaration.Shape.TheVariants.{Scalar}
+use Rattle.flat_parts.specs.vlog_names.Entries.{declared}
+use Rattle.flat_parts.specs.vlog_names.Ports.{has_reg}
+use Rattle.flat_parts.specs.vlog_names.Different.{Differ}
 use Rattle.net_design.specs.declared.values.Target.TheVariants as targets
 use Rattle.net_design.specs.declared.values.Values.{Values}
 use Rattle.net_design.specs.Updates.{update}
-use Rattle.shim_design.specs.vlog_block.Value.{value, width_of}
-use Rattle.shim_design.specs.vlog_block.Targets.{target_width, target_updates}
-use Rattle.shim_design.specs.vlog_meaning.Names.{Full, State}
-use Rattle.shim_design.specs.vlog_meaning.Next.{IsNext, clocked_updates}
+use Rattle.flat_parts.specs.vlog_block.Value.{value, width_of}
+use Rattle.flat_parts.specs.vlog_block.Targets.{target_width, target_updates}
+use Rattle.flat_parts.specs.vlog_meaning.Names.{Full, State}
+use Rattle.flat_parts.specs.vlog_meaning.Next.{IsNext, clocked_updates}
 use Rattle.shim_trees.specs.Pieces.{Name, ident, net, not_net, both, target, each, numbered, input, output, reg, gated_content}
 use Rattle.shim_trees.specs.Monitor.{monitor, monitor_ports, monitor_items, gates, events}
-use Rattle.shim_design.specs.Plain.{IsPlain, IsPlainItem, IsClockedItem, nets_of}
-use Rattle.shim_design.specs.Nets.{IsNet}
-use Rattle.shim_design.proofs.Elements.{Has, has_left, has_right, apart_from}
-use Rattle.shim_design.proofs.Declared.{reg_found}
-use Rattle.shim_design.proofs.Scopes.{bare}
-use Rattle.shim_design.proofs.Standing as standing
-use Rattle.shim_design.proofs.Whole.{target_bits}
+use Rattle.shim_step.specs.Plain.{IsPlain, IsPlainItem, IsClockedItem, nets_of}
+use Rattle.shim_step.specs.Nets.{IsNet}
+use Rattle.shim_step.proofs.Elements.{Has, has_left, has_right, apart_from}
+use Rattle.shim_step.proofs.Declared.{reg_found}
+use Rattle.shim_step.proofs.Scopes.{bare}
+use Rattle.shim_step.proofs.Standing as standing
+use Rattle.shim_step.proofs.Whole.{target_bits}
 use Rattle.shim_step.proofs.Lists.{has_each, all_each}
 use Rattle.shim_step.proofs.Bits.{width_here, number_here}
 use Rattle.shim_step.proofs.Stand.{HasNet, port_has, reg_has, one_bit, Stand, R, V, is_net, is_bit, and_item, and_not_item, content_item}

@@ -8,9 +8,9 @@ use Rattle.net_order.proofs.vidi_bits_lemmas.Each.{each_append}
 use Rattle.vlog_tree.specs.Tree.{PortOf, ConnOf, ItemOf, ModuleOf, FileOf}
 use Rattle.net_design.specs.declared.design.Design.{Design}
 use Rattle.net_design.specs.declared.design.Direction.{Direction}
-use Rattle.shim_design.specs.vlog_meaning.Names.{Full, State}
-use Rattle.shim_design.specs.vlog_meaning.Next.{IsNext}
-use Rattle.shim_design.specs.vlog_meaning.Settled.{IsSettled}
+use Rattle.flat_parts.specs.vlog_meaning.Names.{Full, State}
+use Rattle.flat_parts.specs.vlog_meaning.Next.{IsNext}
+use Rattle.flat_parts.specs.vlog_meaning.Settled.{IsSettled}
 use Rattle.chan_replayer.specs.trace_model.declared.channel.Channel.{Channel}
 use Rattle.chan_replayer.specs.trace_model.declared.channel.Dir.{Dir}
 use Rattle.chan_replayer.specs.trace_model.declared.channel.Dir.TheVariants.{Inward, Outward}
@@ -23,8 +23,8 @@ use Rattle.shim_trees.specs.Links.{record_links, dut, content_wires, tied_ports}
 use Rattle.shim_trees.specs.Monitor.{monitor}
 use Rattle.shim_trees.specs.RecordTop.{record_ports, record_wires, source_conns, sink_conns, source_content, sink_content, monitor_conns}
 use Rattle.shim_trees.specs.RecordTop.{monitor_item, record_top, source_ready, sink_valid}
-use Rattle.shim_design.specs.Plain.{IsPlain, IsPlainItem}
-use Rattle.shim_design.proofs.Elements.{Has, has_left, has_right, has_contains}
+use Rattle.shim_step.specs.Plain.{IsPlain, IsPlainItem}
+use Rattle.shim_step.proofs.Elements.{Has, has_left, has_right, has_contains}
 use Rattle.shim_step.specs.Wrapped.{IsWrapped, fly_name}
 use Rattle.shim_step.proofs.Lists.{has_each, all_each, has_some, all_some}
 use Rattle.shim_step.proofs.Files as files

@@ -8,10 +8,10 @@ use Rattle.net_order.proofs.vidi_bits_lemmas.Each.{each_append}
 use Rattle.vlog_tree.specs.Tree.{PortOf, ModuleOf, FileOf}
 use Rattle.net_design.specs.declared.design.Design.{Design}
 use Rattle.net_design.specs.Settled as design
-use Rattle.shim_design.specs.vlog_meaning.Names.{Full, State}
-use Rattle.shim_design.specs.vlog_meaning.Next.{IsNext, IsInitial}
-use Rattle.shim_design.specs.vlog_meaning.Settled.{IsSettled}
-use Rattle.shim_design.specs.flat_parts.Meaning.{AreNarrow}
+use Rattle.flat_parts.specs.vlog_meaning.Names.{Full, State}
+use Rattle.flat_parts.specs.vlog_meaning.Next.{IsNext, IsInitial}
+use Rattle.flat_parts.specs.vlog_meaning.Settled.{IsSettled}
+use Rattle.flat_parts.specs.Meaning.{AreNarrow}
 use Rattle.chan_replayer.specs.trace_model.declared.channel.Channel.{Channel}
 use Rattle.chan_replayer.specs.trace_model.declared.channel.Dir.{Dir}
 use Rattle.chan_replayer.specs.trace_model.declared.channel.Dir.TheVariants.{Inward, Outward}
@@ -27,10 +27,10 @@ use Rattle.shim_trees.specs.Links.{link, replay_links}
 use Rattle.shim_trees.specs.Replayer.{replayer, side_ports, shown_items}
 use Rattle.shim_trees.specs.ReplayTop.{replay_name, replay_top, replayer_conns}
 use Rattle.shim_trees.specs.Wrapped.{wrapped}
-use Rattle.shim_design.specs.Part.{pins_below}
-use Rattle.shim_design.specs.Plain.{nets_of, HasNoInit, HasNoInits}
-use Rattle.shim_design.proofs.Elements.{has_contains}
-use Rattle.shim_design.proofs.Initial.{nets_begin}
+use Rattle.shim_step.specs.Part.{pins_below}
+use Rattle.shim_step.specs.Plain.{nets_of, HasNoInit, HasNoInits}
+use Rattle.shim_step.proofs.Elements.{has_contains}
+use Rattle.shim_step.proofs.Initial.{nets_begin}
 use Rattle.shim_step.specs.Wrapped.{IsWrapped, DUT, Counts, counter_name}
 use Rattle.shim_step.specs.Ports.{HasNoFeed}
 use Rattle.shim_step.specs.Recording.{own_state}

@@ -7,9 +7,9 @@ use Rattle.net_order.specs.vidi_bits.Number.{truth}
 use Rattle.net_order.proofs.vidi_bits_lemmas.Each.{each_append}
 use Rattle.vlog_tree.specs.Tree.{PortOf, ConnOf, ItemOf, ModuleOf, FileOf}
 use Rattle.net_design.specs.declared.design.Design.{Design}
-use Rattle.shim_design.specs.vlog_meaning.Names.{Full, State}
-use Rattle.shim_design.specs.vlog_meaning.Next.{IsNext}
-use Rattle.shim_design.specs.vlog_meaning.Settled.{IsSettled}
+use Rattle.flat_parts.specs.vlog_meaning.Names.{Full, State}
+use Rattle.flat_parts.specs.vlog_meaning.Next.{IsNext}
+use Rattle.flat_parts.specs.vlog_meaning.Settled.{IsSettled}
 use Rattle.chan_replayer.specs.trace_model.declared.channel.Channel.{Channel}
 use Rattle.chan_replayer.specs.trace_model.declared.channel.Dir.{Dir}
 use Rattle.chan_replayer.specs.trace_model.declared.channel.Dir.TheVariants.{Inward, Outward}
@@ -19,8 +19,8 @@ use Rattle.shim_trees.specs.Pieces.{Name, numbered, numbered_twice, each, each_s
 use Rattle.shim_trees.specs.Links.{replay_links, dut, content_wires, tied_ports}
 use Rattle.shim_trees.specs.Replayer.{replayer}
 use Rattle.shim_trees.specs.ReplayTop.{fed_ports, shown_ports, replay_ports, replay_wires, side_conns, replayer_conns, replayer_item, replay_top}
-use Rattle.shim_design.specs.Plain.{IsPlain, IsPlainItem}
-use Rattle.shim_design.proofs.Elements.{Has, has_left, has_right, has_contains}
+use Rattle.shim_step.specs.Plain.{IsPlain, IsPlainItem}
+use Rattle.shim_step.proofs.Elements.{Has, has_left, has_right, has_contains}
 use Rattle.shim_step.specs.Wrapped.{IsWrapped, counter_name}
 use Rattle.shim_step.proofs.Lists.{has_each, all_each, has_some, all_some, has_upto}
 use Rattle.shim_step.proofs.Files as files

@@ -12,27 +12,27 @@ use Rattle.net_order.proofs.vidi_bits_lemmas.Each.{each_append}
 use Rattle.vlog_tree.specs.Tree.{PortOf, ItemOf, ModuleOf, ExprOf, BeginStmt}
 use Rattle.shim_trees.specs.vlog_size.declared.scope.ScopeNet.{ScopeNet}
 use Rattle.shim_trees.specs.vlog_size.Table.{Named, place_of}
-use Rattle.shim_design.specs.vlog_names.declared.declaration.Shape.TheVariants.{Vector}
-use Rattle.shim_design.specs.vlog_names.Entries.{declared}
-use Rattle.shim_design.specs.vlog_names.Ports.{has_reg}
-use Rattle.shim_design.specs.vlog_names.Different.{Differ}
+use Rattle.flat_parts.specs.vlog_names.declared.declaration.Shape.TheVariants.{Vector}
+use Rattle.flat_parts.specs.vlog_names.Entries.{declared}
+use Rattle.flat_parts.specs.vlog_names.Ports.{has_reg}
+use Rattle.flat_parts.specs.vlog_names.Different.{Differ}
 use Rattle.net_design.specs.declared.act.Timing.TheVariants.{Nonblocking}
-use Rattle.shim_design.specs.vlog_block.Value.{width_of}
-use Rattle.shim_design.specs.vlog_block.Updates.{stmts_updates}
-use Rattle.shim_design.specs.vlog_meaning.Names.{Full, State}
-use Rattle.shim_design.specs.vlog_meaning.Next.{IsNext, clocked_updates}
+use Rattle.flat_parts.specs.vlog_block.Value.{width_of}
+use Rattle.flat_parts.specs.vlog_block.Updates.{stmts_updates}
+use Rattle.flat_parts.specs.vlog_meaning.Names.{Full, State}
+use Rattle.flat_parts.specs.vlog_meaning.Next.{IsNext, clocked_updates}
 use Rattle.chan_replayer.specs.trace_model.declared.channel.Channel.{Channel}
 use Rattle.chan_replayer.specs.trace_model.declared.channel.Dir.{Dir}
 use Rattle.chan_replayer.specs.trace_model.declared.channel.Dir.TheVariants.{Inward, Outward}
 use Rattle.shim_trees.specs.Pieces.{Name, ident, net, both, each, upto, numbered, input, output, reg, assign, at_clock, gated_content}
 use Rattle.shim_trees.specs.Replayer.{side_ports, covering, counting, shown_items, replayer}
-use Rattle.shim_design.specs.Plain.{IsPlain, IsPlainItem, IsClockedItem, nets_of}
-use Rattle.shim_design.specs.Nets.{IsNet}
-use Rattle.shim_design.proofs.Elements.{Has, Found, has_left, has_right, apart_from, place_some}
-use Rattle.shim_design.proofs.Declared.{reg_found}
-use Rattle.shim_design.proofs.Scopes.{bare}
-use Rattle.shim_design.proofs.Standing as standing
-use Rattle.shim_design.proofs.Whole.{assigned}
+use Rattle.shim_step.specs.Plain.{IsPlain, IsPlainItem, IsClockedItem, nets_of}
+use Rattle.shim_step.specs.Nets.{IsNet}
+use Rattle.shim_step.proofs.Elements.{Has, Found, has_left, has_right, apart_from, place_some}
+use Rattle.shim_step.proofs.Declared.{reg_found}
+use Rattle.shim_step.proofs.Scopes.{bare}
+use Rattle.shim_step.proofs.Standing as standing
+use Rattle.shim_step.proofs.Whole.{assigned}
 use Rattle.shim_step.proofs.Lists.{has_each, all_each, has_upto, all_upto}
 use Rattle.shim_step.proofs.Bits.{number_here}
 use Rattle.shim_step.proofs.Texts.{decimal_spells}

@@ -10,9 +10,9 @@ use Rattle.vlog_tree.specs.Tree.{ModuleOf, FileOf}
 use Rattle.net_design.specs.declared.design.Design.{Design}
 use Rattle.net_design.specs.declared.design.Direction.TheVariants.{Output}
 use Rattle.net_design.specs.Pins.{outputs}
-use Rattle.shim_design.specs.vlog_meaning.Names.{Name, Full, State}
-use Rattle.shim_design.specs.vlog_meaning.Settled.{IsSettled}
-use Rattle.shim_design.specs.flat_parts.Meaning.{AreNarrow}
+use Rattle.flat_parts.specs.vlog_meaning.Names.{Name, Full, State}
+use Rattle.flat_parts.specs.vlog_meaning.Settled.{IsSettled}
+use Rattle.flat_parts.specs.Meaning.{AreNarrow}
 use Rattle.chan_replayer.specs.trace_model.declared.channel.Channel.{Channel}
 use Rattle.chan_replayer.specs.trace_model.declared.channel.Dir.{Dir}
 use Rattle.chan_replayer.specs.trace_model.declared.channel.Dir.TheVariants.{Inward, Outward}
@@ -41,7 +41,7 @@ use Rattle.shim_trees.specs.Pieces.{numbered, numbered_twice}
 use Rattle.shim_trees.specs.Links.{link, replay_links}
 use Rattle.shim_trees.specs.ReplayTop.{replay_name, replay_top}
 use Rattle.shim_trees.specs.Wrapped.{wrapped}
-use Rattle.shim_design.proofs.Elements.{Has}
+use Rattle.shim_step.proofs.Elements.{Has}
 use Rattle.shim_step.specs.Wrapped.{IsWrapped, Counts, counter_name}
 use Rattle.shim_step.specs.Ports.{HasContent, HasFedContent, HasFeed, content_base}
 use Rattle.shim_step.specs.Replaying.{Replays, ReplaysRows}

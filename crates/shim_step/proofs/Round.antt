@@ -11,9 +11,9 @@ use Rattle.net_order.proofs.vidi_bits_lemmas.Lists.{some_same}
 use Rattle.vlog_tree.specs.Tree.{PortOf, ModuleOf, FileOf}
 use Rattle.vlog_tree.specs.declared.module.Direction.TheVariants as tree
 use Rattle.shim_trees.specs.vlog_size.Table.{Named, value_of}
-use Rattle.shim_design.specs.vlog_names.declared.declaration.Declaration.{Declaration}
-use Rattle.shim_design.specs.vlog_names.Entries.{no_port, port_entries, header_entries, parameter_entry, item_entries, declared}
-use Rattle.shim_design.specs.vlog_scope.Scope.{scope_with}
+use Rattle.flat_parts.specs.vlog_names.declared.declaration.Declaration.{Declaration}
+use Rattle.flat_parts.specs.vlog_names.Entries.{no_port, port_entries, header_entries, parameter_entry, item_entries, declared}
+use Rattle.flat_parts.specs.vlog_scope.Scope.{scope_with}
 use Rattle.net_design.specs.declared.design.Design.{Design}
 use Rattle.net_design.specs.declared.design.Direction.TheVariants.{Input}
 use Rattle.net_design.specs.declared.design.Instance.{Instance}
@@ -21,10 +21,10 @@ use Rattle.net_design.specs.declared.design.Net.{Net}
 use Rattle.net_design.specs.declared.design.Port.{Port}
 use Rattle.net_design.specs.Names.{list_at, paths, paths_after, net_names}
 use Rattle.net_design.specs.Settled as design
-use Rattle.shim_design.specs.vlog_meaning.Names.{Name, Full, State}
-use Rattle.shim_design.specs.vlog_meaning.Settled.{IsSettled, IsClock, inputs_of}
-use Rattle.shim_design.specs.flat_parts.Meaning.{values_of, state_of, AreNarrow}
-use Rattle.shim_design.specs.flat_parts.Nets.{port_of, flat_ports}
+use Rattle.flat_parts.specs.vlog_meaning.Names.{Name, Full, State}
+use Rattle.flat_parts.specs.vlog_meaning.Settled.{IsSettled, IsClock, inputs_of}
+use Rattle.flat_parts.specs.Meaning.{values_of, state_of, AreNarrow}
+use Rattle.flat_parts.specs.Nets.{port_of, flat_ports}
 use Rattle.chan_replayer.specs.chan_map.declared.pins.Map.{Map}
 use Rattle.chan_replayer.specs.chan_map.declared.pins.Pin.{Pin}
 use Rattle.chan_replayer.specs.chan_map.declared.pins.Reset.{Reset}
@@ -32,13 +32,13 @@ use Rattle.chan_replayer.specs.chan_map.declared.pins.Tie.{Tie}
 use Rattle.chan_replayer.specs.chan_map.Bound.{IsPin, IsTie}
 use Rattle.chan_replayer.specs.run_model.Pins.{reset_input}
 use Rattle.chan_replayer.proofs.run_model_lemmas.RowParts.{channel-at}
-use Rattle.shim_design.proofs.flat_parts_lemmas.Ports.{inputs_placed}
+use Rattle.flat_parts.proofs.Ports.{inputs_placed}
 use Rattle.shim_trees.specs.Pieces.{input}
 use Rattle.shim_trees.specs.Links.{link, tied, tied_link, links, held, tied_input, tied_port, tied_ports, reset_width, tie_width}
-use Rattle.shim_design.specs.Part.{under, part, pins_below, IsPart}
-use Rattle.shim_design.proofs.FlatPart.{narrow}
-use Rattle.shim_design.proofs.Part.{part_is_settled}
-use Rattle.shim_design.proofs.Elements.{Has, in_slice, has_flat, contains_has, at_member, mapped, get_map, Apart, apart_from, apart_front, apart_back}
+use Rattle.shim_step.specs.Part.{under, part, pins_below, IsPart}
+use Rattle.shim_step.proofs.FlatPart.{narrow}
+use Rattle.shim_step.proofs.Part.{part_is_settled}
+use Rattle.shim_step.proofs.Elements.{Has, in_slice, has_flat, contains_has, at_member, mapped, get_map, Apart, apart_from, apart_front, apart_back}
 use Rattle.shim_step.specs.Wrapped.{IsWrapped, DUT}
 use Rattle.shim_step.specs.Ports.{HasHeld}
 use Rattle.shim_step.proofs.Files as files

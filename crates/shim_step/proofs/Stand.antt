@@ -8,21 +8,21 @@ use Rattle.vlog_tree.specs.declared.module.Direction.{Direction}
 use Rattle.vlog_tree.specs.Tree.{ConnOf, InstanceOf, InstanceItem, ItemOf, ModuleOf}
 use Rattle.shim_trees.specs.vlog_size.declared.scope.Scope.{Scope}
 use Rattle.shim_trees.specs.vlog_size.Names.{Readable}
-use Rattle.shim_design.specs.vlog_scope.Extents.{net_width}
-use Rattle.shim_design.specs.vlog_scope.Scope.{scope_with}
+use Rattle.flat_parts.specs.vlog_scope.Extents.{net_width}
+use Rattle.flat_parts.specs.vlog_scope.Scope.{scope_with}
 use Rattle.net_design.specs.declared.values.Values.{Values}
-use Rattle.shim_design.specs.vlog_meaning.Names.{Full, State, numbers_at}
-use Rattle.shim_design.specs.vlog_meaning.Placed.{names_at}
-use Rattle.shim_design.specs.vlog_meaning.Instances.{IsChild, IsAt}
-use Rattle.shim_design.specs.vlog_meaning.Items.{HoldsAt, ConnsHold}
-use Rattle.shim_design.specs.vlog_meaning.Settled.{IsSettled}
+use Rattle.flat_parts.specs.vlog_meaning.Names.{Full, State, numbers_at}
+use Rattle.flat_parts.specs.vlog_meaning.Placed.{names_at}
+use Rattle.flat_parts.specs.vlog_meaning.Instances.{IsChild, IsAt}
+use Rattle.flat_parts.specs.vlog_meaning.Items.{HoldsAt, ConnsHold}
+use Rattle.flat_parts.specs.vlog_meaning.Settled.{IsSettled}
 use Rattle.shim_trees.specs.Pieces.{Name, ident, net, not_net, both, range_of, port, wire, reg, assign, gated_content, conn, instance, numbered}
-use Rattle.shim_design.specs.Plain.{net_named, extent, nets_of, IsPlain}
-use Rattle.shim_design.specs.Nets.{IsNet, IsJoint}
-use Rattle.shim_design.proofs.Elements.{Has, has_contains}
-use Rattle.shim_design.proofs.Scopes.{bare}
-use Rattle.shim_design.proofs.Standing as standing
-use Rattle.shim_design.proofs.Whole.{nets_are_joined}
+use Rattle.shim_step.specs.Plain.{net_named, extent, nets_of, IsPlain}
+use Rattle.shim_step.specs.Nets.{IsNet, IsJoint}
+use Rattle.shim_step.proofs.Elements.{Has, has_contains}
+use Rattle.shim_step.proofs.Scopes.{bare}
+use Rattle.shim_step.proofs.Standing as standing
+use Rattle.shim_step.proofs.Whole.{nets_are_joined}
 use Rattle.shim_step.proofs.Texts.{range_width, zero_literal}
 use Rattle.shim_step.proofs.Bits.{IsBit, and_of, and_not, choice_of}
 

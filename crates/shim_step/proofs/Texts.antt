@@ -12,8 +12,8 @@ use Rattle.net_order.specs.vidi_bits.Number.{IsWidth}
 use Rattle.vlog_tree.specs.declared.expr.NumberKind.TheVariants.{Decimal, Based}
 use Rattle.shim_trees.specs.vlog_size.Literal.{digit, digits_from, is_quote, after_quote, literal_number, literal_width, is_lawful}
 use Rattle.shim_trees.specs.vlog_size.Size.{or_zero, number, of_number}
-use Rattle.shim_design.specs.vlog_scope.Extents.{net_width, bits_of, counted, MOST}
-use Rattle.shim_design.specs.Plain.{extent}
+use Rattle.flat_parts.specs.vlog_scope.Extents.{net_width, bits_of, counted, MOST}
+use Rattle.shim_step.specs.Plain.{extent}
 use Rattle.shim_trees.specs.Pieces.{range_of}
 use Rattle.shim_trees.specs.Pieces as pieces
 

@@ -4,11 +4,11 @@ use Rattle.vlog_tree.specs.Tree.{ModuleOf, FileOf}
 use Rattle.net_design.specs.declared.design.Design.{Design}
 use Rattle.net_design.specs.declared.values.Values.{Values}
 use Rattle.net_design.specs.Settled.{initial}
-use Rattle.shim_design.specs.vlog_meaning.Names.{Full, State}
-use Rattle.shim_design.specs.vlog_meaning.Settled.{IsSettled}
-use Rattle.shim_design.specs.vlog_meaning.Next.{IsNext, IsInitial}
-use Rattle.shim_design.specs.flat_parts.Laws.{IsTop}
-use Rattle.shim_design.specs.flat_parts.Meaning.{state_of, AreNarrow}
+use Rattle.flat_parts.specs.vlog_meaning.Names.{Full, State}
+use Rattle.flat_parts.specs.vlog_meaning.Settled.{IsSettled}
+use Rattle.flat_parts.specs.vlog_meaning.Next.{IsNext, IsInitial}
+use Rattle.flat_parts.specs.Laws.{IsTop}
+use Rattle.flat_parts.specs.Meaning.{state_of, AreNarrow}
 use Rattle.chan_replayer.specs.trace_model.declared.row.Offers.{Offers}
 use Rattle.chan_replayer.specs.trace_model.declared.row.Row.{Row}
 use Rattle.chan_replayer.specs.trace_model.Row.{AreOffers}
@@ -19,7 +19,7 @@ use Rattle.chan_replayer.specs.run_model.Step.{IsStep}
 use Rattle.chan_replayer.specs.chan_monitor.Shell.{IsShown}
 use Rattle.shim_trees.specs.RecordTop.{record_name}
 use Rattle.shim_trees.specs.Wrapped.{wrapped}
-use Rattle.shim_design.specs.Part.{part, pins_below}
+use Rattle.shim_step.specs.Part.{part, pins_below}
 use Rattle.shim_step.specs.Wrapped.{IsWrapped, DUT, Flies}
 use Rattle.shim_step.specs.Ports.{HasOffers, HasReset, ShowsRow}
 

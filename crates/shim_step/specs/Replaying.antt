@@ -3,9 +3,9 @@ use Rattle.std.specs.Prelude.{◌≡◌, ℕ, ◌≤◌, Bool, true, List, [], �
 use Rattle.vlog_tree.specs.Tree.{ModuleOf, FileOf}
 use Rattle.net_design.specs.declared.design.Design.{Design}
 use Rattle.net_design.specs.Settled.{initial}
-use Rattle.shim_design.specs.vlog_meaning.Names.{Full, State}
-use Rattle.shim_design.specs.vlog_meaning.Next.{IsNext, IsInitial}
-use Rattle.shim_design.specs.flat_parts.Laws.{IsTop}
+use Rattle.flat_parts.specs.vlog_meaning.Names.{Full, State}
+use Rattle.flat_parts.specs.vlog_meaning.Next.{IsNext, IsInitial}
+use Rattle.flat_parts.specs.Laws.{IsTop}
 use Rattle.chan_replayer.specs.trace_model.declared.packet.TheConstants.{MOST_CYCLES}
 use Rattle.chan_replayer.specs.trace_model.declared.row.Row.{Row}
 use Rattle.chan_replayer.specs.chan_map.declared.pins.Map.{Map}
@@ -17,7 +17,7 @@ use Rattle.chan_replayer.specs.Feed.{IsFeedOver}
 use Rattle.chan_replayer.specs.Shell.{IsShown}
 use Rattle.shim_trees.specs.ReplayTop.{replay_name}
 use Rattle.shim_trees.specs.Wrapped.{wrapped}
-use Rattle.shim_design.specs.Part.{pins_below}
+use Rattle.shim_step.specs.Part.{pins_below}
 use Rattle.shim_step.specs.Wrapped.{IsWrapped, DUT, Counts}
 use Rattle.shim_step.specs.Ports.{HasFeed, HasNoFeed, ShowsReplay}
 use Rattle.shim_step.specs.Recording.{own_state, IsCycleOf}

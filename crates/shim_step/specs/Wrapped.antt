@@ -2,14 +2,14 @@
 use Rattle.std.specs.Prelude.{◌≡◌, ℕ, ◌<◌, List, [], ◌∷◌, codes, length, Option, Some, slice_get}
 use Rattle.net_order.specs.vidi_bits.Number.{truth}
 use Rattle.vlog_tree.specs.Tree.{ModuleOf, FileOf}
-use Rattle.shim_design.specs.vlog_names.Twice.{twice_names}
+use Rattle.flat_parts.specs.vlog_names.Twice.{twice_names}
 use Rattle.net_design.specs.declared.design.Design.{Design}
 use Rattle.net_design.specs.Lawful.{IsLawful}
-use Rattle.shim_design.specs.vlog_meaning.Names.{Name, Full, State}
-use Rattle.shim_design.specs.flat_parts.Built.{IsBuilt}
-use Rattle.shim_design.specs.flat_parts.Meaning.{Means}
-use Rattle.shim_design.specs.flat_parts.Laws.{IsTop}
-use Rattle.shim_design.specs.vlog_elab.Instances.{instances}
+use Rattle.flat_parts.specs.vlog_meaning.Names.{Name, Full, State}
+use Rattle.flat_parts.specs.Built.{IsBuilt}
+use Rattle.flat_parts.specs.Meaning.{Means}
+use Rattle.flat_parts.specs.Laws.{IsTop}
+use Rattle.flat_parts.specs.vlog_elab.Instances.{instances}
 use Rattle.chan_replayer.specs.trace_model.declared.channel.Channel.{Channel}
 use Rattle.chan_replayer.specs.trace_model.declared.row.Row.{Row}
 use Rattle.chan_replayer.specs.trace_model.Row.{flies_after}

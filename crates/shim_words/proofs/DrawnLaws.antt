@@ -1,8 +1,6 @@
 -- What is drawn fits the channels.
 use Rattle.std.proofs.Common.{◌≡◌, ℕ, suc, ◌+◌, ◌<◌, ◌^◌, true, false, List, [], ◌∷◌, ◌++◌, Option, Some, length, take, replicate}
 use Rattle.std.proofs.Common.{get_or, slice_get, ⊎_elim, refl, ap, sym, subst, ◌∙◌, arith}
-use Rattle.std.proofs.Math.Logic.{∥∥₁_elim}
-use Rattle.std.proofs.Props.{props}
 use Rattle.std.proofs.lemmas.Bool.{cases_Bool, cond-true, cond-false}
 use Rattle.std.proofs.lemmas.Grind.{flat_map-append}
 use Rattle.std.proofs.lemmas.List.{append-nil}
@@ -10,18 +8,12 @@ use Rattle.std.proofs.lemmas.Option.{slice_get_read}
 use Rattle.shim_runs.specs.vidi_bits.Number.{has}
 use Rattle.shim_runs.specs.trace_model.declared.channel.Channel.{Channel}
 use Rattle.shim_runs.specs.trace_model.declared.row.Offers.{Offers}
-use Rattle.shim_runs.specs.trace_model.declared.row.Row.{Row}
 use Rattle.shim_runs.specs.trace_model.Packet.{Fit, widths_of}
 use Rattle.shim_runs.specs.trace_model.Row.{all_widths, content_at, AreOffers}
-use Rattle.shim_runs.proofs.trace_model_lemmas.ContentsLemmas.{fit-length}
 use Rattle.shim_runs.proofs.trace_model_lemmas.CountingLemmas.{take-suc_get}
 use Rattle.shim_runs.specs.run_model.Building.{joined}
 use Rattle.shim_runs.specs.run_model.Offers.{no_content, AreZeroWhileDown}
 use Rattle.shim_runs.proofs.run_model_lemmas.Contents.{content-fits, content-joined, fit-joined, fit-zeros}
-use Rattle.net_design.specs.declared.design.Design.{Design}
-use Rattle.net_design.specs.declared.values.Values.{Values}
-use Rattle.shim_runs.specs.chan_map.declared.pins.Map.{Map}
-use Rattle.shim_runs.specs.chan_monitor.Shell.{HasPlaces, IsRunning, IsShown}
 use Rattle.shim_runs.specs.chan_replayer.Fed.{fed_content}
 
 -- one channel more
@@ -71,12 +63,3 @@ cleared channels table widths drawn valids readies contents same ws fit vs rs ma
       record { valids = vs; readies = rs; contents = drawn-fit channels offers drawn fits is },
       drawn-zeros channels offers drawn fits is,
     )
-
--- ---- the row that a shell shows
-pub shown-places : (channels : List Channel) (m : Map) (runs : Design → Values → Option Row → Type 0) (offers : Offers) (gates : ℕ)
-    (row : Row) → ∥ IsRunning runs ∥₁ → m.channels ≡ channels
-    → ((d : Design) (s : Values) (before : Option Row) → runs d s before → IsShown d m s before offers gates row) → HasPlaces channels row
-shown-places channels m runs offers gates row running same shown =
-    ∥∥₁_elim running (hlevel props) (λ (r : IsRunning runs).
-    (let over = (shown r.0 r.1 r.2 r.3).over in
-    sym (fit-length (all_widths m.channels) row.contents over.contents) ∙ ap (λ (cs : List Channel). length (all_widths cs)) same))

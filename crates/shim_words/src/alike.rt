@@ -1,4 +1,4 @@
-//! Whether two shells have the same rows, and how it is said.
+//! Whether two stages have the same rows, and how it is said.
 
 ghost use Rattle.std.specs.Prelude.{◌≤◌, IfOk};
 ghost use Rattle.shim_runs.specs.trace_model.declared.packet.TheConstants.{MOST_CYCLES};
@@ -9,20 +9,32 @@ use shim_runs::vidi_io::Text;
 use shim_runs::{Ended, cycles_of};
 use std::alloc::Global;
 
-/// How long shells are compared, and which seed begins what they are given.
+/// What stands round a design.
+#[derive(Clone, Copy, Drop)]
+pub(crate) enum Around {
+    Monitors,
+    Replayers,
+}
+
+/// Which stages are compared, for how long, and which seed begins what they are given.
 #[derive(Clone, Copy, Drop)]
 pub(crate) struct Course {
+    pub around: Around,
     pub seed: u64,
     pub cycles: u32,
 }
 
 /// The course that two words write.
-pub(crate) fn course_of(seed: &Text, cycles: &Text) -> Result<Course, Ended>
+pub(crate) fn course_of(around: Around, seed: &Text, cycles: &Text) -> Result<Course, Ended>
     ensures { IfOk result (λ course. course.cycles ≤ MOST_CYCLES) }
 {
     let cycles = cycles_of(cycles)?;
     match seed.as_str().parse::<u64>() {
-        Ok(seed) => Ok(Course { seed, cycles }),
+        Ok(seed) => Ok(Course {
+            around,
+            seed,
+            cycles,
+        }),
         Err(_) => Err(Ended::Usage),
     }
 }

@@ -1,7 +1,7 @@
 //! What the words of a case are answered.
 
+use crate::alike::Around;
 use crate::fed_nets::fed_nets;
-use crate::fed_rows::fed_rows;
 use crate::nets::nets;
 use crate::rows::rows;
 use shim_runs::vidi_io::{Shelf, Text};
@@ -22,8 +22,8 @@ pub(crate) fn answer<S: Shelf>(
         b"replay" => replay(alloc, rest, shelf),
         b"nets" => nets(alloc, rest, shelf),
         b"fed_nets" => fed_nets(alloc, rest, shelf),
-        b"rows" => rows(alloc, rest, shelf),
-        b"fed_rows" => fed_rows(alloc, rest, shelf),
+        b"rows" => rows(alloc, Around::Monitors, rest, shelf),
+        b"fed_rows" => rows(alloc, Around::Replayers, rest, shelf),
         _ => Err(Ended::Usage),
     }
 }

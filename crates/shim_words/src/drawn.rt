@@ -1,21 +1,22 @@
-//! Offers, gates and feeds that look random, and are the same each time.
+//! Offers with gates, and feeds, that look random, and are the same each time.
 
-ghost use Rattle.std.specs.Prelude.{◌≡◌, ◌≤◌, ◌<◌, ◌*◌, ◌^◌, IfOk, length};
+ghost use Rattle.std.specs.Prelude.{◌≡◌, ◌≤◌, ◌<◌, ◌*◌, ◌^◌, List, IfOk, length};
+ghost use Rattle.shim_runs.specs.trace_model.declared.channel.Channel.{Channel as OneChannel};
+ghost use Rattle.shim_runs.specs.trace_model.declared.packet.TheConstants.{MOST_CHANNELS};
 ghost use Rattle.shim_runs.specs.trace_model.Packet.{Fit};
-ghost use Rattle.shim_runs.specs.trace_model.Row.{all_widths, replaced, AreOffers};
-ghost use Rattle.shim_runs.specs.run_model.Building.{joined};
+ghost use Rattle.shim_runs.specs.trace_model.Row.{all_widths, AreOffers};
 ghost use Rattle.shim_runs.specs.run_model.Offers.{AreZeroWhileDown};
-ghost use Rattle.shim_runs.specs.chan_replayer.Fed.{fed_content};
-ghost use Rattle.shim_runs.specs.chan_replayer.Feed.{IsFeedOver};
 
 use shim_runs::chan_replayer::{Feed, Needs, clear_contents};
+use shim_runs::env_script::offers_over;
+use shim_runs::run_stage::{Gated, Given};
 use shim_runs::trace_model::{Channel, Channels, Offers, names};
 use shim_runs::vidi_bits::{Bytes, Items, Memory, trim};
 use std::alloc::Global;
 
 /// A sequence of numbers, another for each seed (splitmix64).
 #[derive(Drop)]
-pub(crate) struct Sequence {
+struct Sequence {
     state: u64,
 }
 
@@ -31,7 +32,7 @@ fn cut(number: u128, bits: u32) -> u128
 
 impl Sequence {
     /// The sequence that a seed begins.
-    pub(crate) fn new(seed: u64) -> Sequence {
+    fn new(seed: u64) -> Sequence {
         Sequence { state: seed }
     }
 
@@ -57,7 +58,7 @@ impl Sequence {
     }
 
     /// A mask of so many channels.
-    pub(crate) fn mask(&mut self, channels: usize) -> u128
+    fn mask(&mut self, channels: usize) -> u128
         requires { channels ≤ 128 }
         ensures { result < 2 ^ channels }
     {
@@ -66,7 +67,7 @@ impl Sequence {
 }
 
 /// The widths of all channels' ports.
-pub(crate) fn widths_over(alloc: Global, channels: &[Channel]) -> Result<Bytes, Memory>
+fn widths_over(alloc: Global, channels: &[Channel]) -> Result<Bytes, Memory>
     ensures { IfOk result (λ widths. widths ≡ all_widths channels.now) }
 {
     let mut widths = Vec::new(alloc);
@@ -87,13 +88,8 @@ fn draw_contents(sequence: &mut Sequence, widths: &[u8], contents: &mut [u128])
 }
 
 /// Draws what is offered in a cycle.
-pub(crate) fn draw_offers(
-    sequence: &mut Sequence,
-    channels: &Channels,
-    widths: &Bytes,
-    offers: &mut Offers,
-)
-    requires few { length channels.now ≤ 128 }
+fn draw_offers(sequence: &mut Sequence, channels: &Channels, widths: &Bytes, offers: &mut Offers)
+    requires few { length channels.now ≤ MOST_CHANNELS }
     requires widths { widths.now ≡ all_widths channels.now }
     requires places { length offers.old.contents ≡ length (all_widths channels.now) }
     ensures offers { AreOffers channels.now offers.new }
@@ -144,39 +140,123 @@ fn draw_needs(sequence: &mut Sequence, counts: &[u32], clock: &mut [u32], needs:
     }
 }
 
-/// A feed with a place for each channel's clock and each port's number, of which there are so many.
-pub(crate) fn feed_over(alloc: Global, channels: usize, ports: usize) -> Result<Feed, Memory>
-    requires { channels ≤ 128 }
-    ensures needs { IfOk result (λ feed. length feed.needs ≡ channels * channels) }
-    ensures contents { IfOk result (λ feed. length feed.contents ≡ ports) }
-{
-    let contents = vec![in alloc; 0u128; ports]?;
-    Ok(Feed {
-        more: 0,
-        needs: Needs::new(alloc, channels)?,
-        contents: Items::from_vec(contents),
-    })
+/// Counts the completions of a row.
+fn count(counts: &mut [u32], ends: u128) {
+    for c in 0..counts.len() {
+        counts[c] = counts[c].wrapping_add(u32::from(names(ends, c)));
+    }
 }
 
-/// Draws what is fed in a cycle, after so many completions of each channel; `clock` is a place for one clock.
-pub(crate) fn draw_feed(
-    sequence: &mut Sequence,
-    channels: &Channels,
-    widths: &Bytes,
-    counts: &[u32],
-    clock: &mut [u32],
-    feed: &mut Feed,
-)
-    requires few { length channels.now ≤ 128 }
-    requires widths { widths.now ≡ all_widths channels.now }
-    requires counts { length counts.now ≡ length channels.now }
-    requires clock { length clock.old ≡ length counts.now }
-    requires needs { length feed.old.needs ≡ length channels.now * length channels.now }
-    requires places { length feed.old.contents ≡ length (all_widths channels.now) }
-    ensures feed { IsFeedOver channels.now feed.new }
-    ensures places { length feed.new.contents ≡ length (all_widths channels.now) }
-{
-    feed.more = sequence.mask(channels.len());
-    draw_needs(sequence, counts, clock, &mut feed.needs);
-    draw_contents(sequence, widths.as_slice(), feed.contents.as_mut_slice());
+/// What is given to stages of these channels is drawn from it. Only `new` takes memory.
+#[derive(Drop)]
+pub(crate) struct Urn<'a> {
+    channels: &'a Channels,
+    /// The widths of all channels' ports.
+    widths: Bytes,
+    sequence: Sequence,
+    /// The completions of each channel since the last reset.
+    counts: Items<u32>,
+    /// A place for a clock.
+    clock: Items<u32>,
+    ghost few: { length channels.now ≤ MOST_CHANNELS },
+    ghost widths_are: { widths ≡ all_widths channels.now },
+    ghost counts_are: { length counts ≡ length channels.now },
+    ghost clock_is: { length clock ≡ length channels.now },
+}
+
+impl<'a> Urn<'a> {
+    /// Before the first draw of those that a seed begins.
+    pub(crate) fn new(alloc: Global, channels: &'a Channels, seed: u64) -> Result<Urn<'a>, Memory>
+        requires few { length channels.now ≤ MOST_CHANNELS }
+        ensures channels { IfOk result (λ urn. urn.channels.now ≡ channels.now) }
+    {
+        let widths = widths_over(alloc, channels.as_slice())?;
+        let counts = vec![in alloc; 0u32; channels.len()]?;
+        let clock = vec![in alloc; 0u32; channels.len()]?;
+        Ok(Urn {
+            channels,
+            widths,
+            sequence: Sequence::new(seed),
+            counts: Items::from_vec(counts),
+            clock: Items::from_vec(clock),
+        })
+    }
+
+    /// Forgets the completions.
+    pub(crate) fn reset(&mut self)
+        ensures channels { self.new.channels.now ≡ self.old.channels.now }
+    {
+        self.counts.as_mut_slice().fill(0);
+    }
+
+    /// Counts the completions of a row.
+    pub(crate) fn count(&mut self, ends: u128)
+        ensures channels { self.new.channels.now ≡ self.old.channels.now }
+    {
+        count(self.counts.as_mut_slice(), ends);
+    }
+}
+
+/// What can be drawn for a cycle.
+pub(crate) trait Draw: Given + Drop {
+    /// It has a place for each number over these channels.
+    ghost has_places: { List OneChannel → Self → Type 0 };
+
+    /// With a place for each number over these channels. Only this call takes memory.
+    fn blank(alloc: Global, channels: &Channels) -> Result<Self, Memory>
+        requires few { length channels.now ≤ MOST_CHANNELS }
+        ensures { IfOk result (has_places channels.now) };
+
+    /// Draws what is given in the next cycle.
+    fn draw(&mut self, urn: &mut Urn)
+        requires places { has_places urn.old.channels.now self.old }
+        ensures fits { Self.fits urn.old.channels.now self.new }
+        ensures places { has_places urn.old.channels.now self.new }
+        ensures channels { urn.new.channels.now ≡ urn.old.channels.now };
+}
+
+impl Draw for Gated {
+    ghost has_places = { λ channels gated. length gated.offers.contents ≡ length (all_widths channels) };
+
+    fn blank(alloc: Global, channels: &Channels) -> Result<Gated, Memory> {
+        let offers = offers_over(alloc, channels)?;
+        Ok(Gated { offers, gates: 0 })
+    }
+
+    fn draw(&mut self, urn: &mut Urn) {
+        let channels = urn.channels;
+        draw_offers(&mut urn.sequence, channels, &urn.widths, &mut self.offers);
+        self.gates = urn.sequence.mask(channels.len());
+    }
+}
+
+impl Draw for Feed {
+    ghost has_places = { λ channels feed. (length feed.needs ≡ length channels * length channels)
+        × (length feed.contents ≡ length (all_widths channels)) };
+
+    fn blank(alloc: Global, channels: &Channels) -> Result<Feed, Memory> {
+        let widths = widths_over(alloc, channels.as_slice())?;
+        let contents = vec![in alloc; 0u128; widths.len()]?;
+        Ok(Feed {
+            more: 0,
+            needs: Needs::new(alloc, channels.len())?,
+            contents: Items::from_vec(contents),
+        })
+    }
+
+    fn draw(&mut self, urn: &mut Urn) {
+        self.more = urn.sequence.mask(urn.channels.len());
+        let counts = urn.counts.as_slice();
+        draw_needs(
+            &mut urn.sequence,
+            counts,
+            urn.clock.as_mut_slice(),
+            &mut self.needs,
+        );
+        draw_contents(
+            &mut urn.sequence,
+            urn.widths.as_slice(),
+            self.contents.as_mut_slice(),
+        );
+    }
 }

@@ -4,10 +4,11 @@
 
 mod alike;
 mod answers;
+mod beside;
 mod drawn;
 mod fed_nets;
-mod fed_rows;
 mod feeds;
+mod line_feeder;
 mod nets;
 mod rows;
 mod said;

@@ -1,7 +1,8 @@
-use Rattle.std.proofs.Common.{List, All, reverse, sym, subst}
+use Rattle.std.proofs.Common.{ℕ, List, All, length, reverse, ap, sym, subst, ◌∙◌}
 use Rattle.net_instr.specs.declared.instr.Instr.{Instr}
 use Rattle.net_instr.specs.Machine.{IsInstr}
 use Rattle.net_instr.specs.InPlace.{IsInPlace}
+use Rattle.net_instr.specs.Needs.{IsEnough}
 use Rattle.net_sim.specs.Slots.{settling_code, clocking_code}
 use Rattle.net_sim.proofs.SimLaws.{known_settling, known_clocking}
 use Rattle.net_sim.proofs.code.placed_of.Goals as goal
@@ -28,3 +29,12 @@ returns-clause-made c =
     c.in_ok-codes.ensures.clocking
     (subst (λ (xs : List Instr). IsInPlace codes.nets xs codes.clocking made.places made.settling made.clocking)
     c.in_ok-codes.ensures.settling c.in_ok-made.ensures))
+
+pub needed-requires : goal.needed-requires
+needed-requires c = ap (λ (ps : List ℕ). length ps) c.as_slice.ensures ∙ c.in_ok-made.ensures.long
+
+pub returns-clause-enough : goal.returns-clause-enough
+returns-clause-enough c =
+    let made = c.in_ok-made.made in
+    subst (λ (ps : List ℕ). IsEnough ps made.settling c.in_ok-nets.nets) c.as_slice.ensures
+    (subst (λ (xs : List Instr). IsEnough c.as_slice.result.now xs c.in_ok-nets.nets) c.as_slice-code.ensures c.in_ok-nets.ensures)

@@ -1,17 +1,12 @@
 use Rattle.std.proofs.Common.{subst}
-use Rattle.std.proofs.Math.Logic.{∥∥₁_map}
-use Rattle.net_design.specs.declared.design.Design.{Design}
 use Rattle.run_stage.specs.chan_map.declared.pins.Map.{Map}
-use Rattle.run_stage.specs.chan_replayer.Shell.{IsRunning}
 use Rattle.run_stage.specs.Playing.{Begins}
-use Rattle.replay_run.proofs.Playing.{plays-of, plays-to}
+use Rattle.replay_run.proofs.Playing.{has-begun, plays-of, plays-to}
 use Rattle.replay_run.proofs.replaying.played.Goals as goal
 
 pub play-requires-clause-begun : goal.play-requires-clause-begun
-play-requires-clause-begun g c = ∥∥₁_map {B = (d : Design) × Begins d c.args.map.now (g.S.ReplayShell.runs c.reset.new.self)}
-    (g.met.S.ReplayShell.running c.args.shell.now)
-    (λ (r : IsRunning (g.S.ReplayShell.runs c.args.shell.now)).
-    (r.0, subst (λ (m : Map). Begins r.0 m (g.S.ReplayShell.runs c.reset.new.self)) c.requires.mapped (c.reset.ensures.first r.0 r.1 r.2 r.3)))
+play-requires-clause-begun g c = has-begun c.args.map.now (g.S.ReplayShell.map c.args.shell.now) (g.S.ReplayShell.runs c.args.shell.now)
+    (g.S.ReplayShell.runs c.reset.new.self) c.requires.mapped (g.met.S.ReplayShell.running c.args.shell.now) c.reset.ensures.first
 
 pub returns-clause-ends : goal.returns-clause-ends
 returns-clause-ends g c =

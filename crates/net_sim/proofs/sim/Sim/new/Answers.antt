@@ -51,6 +51,8 @@ invariant_of-result c =
       settling_below = ∣ subst (λ n. AreBelow n (settling_code d order)) (sym long)
           (subst (λ (xs : List ℕ). AreBelow codes.slots (settling_code d xs)) same c.in_ok-codes.ensures.settling_below) ∣₁;
       clocking_below = ∣ subst (λ n. AreBelow n (clocking_code d)) (sym long) c.in_ok-codes.ensures.clocking_below ∣₁;
+      enough = ∣ c.in_ok-codes.ensures.enough ∣₁;
+      words_is = c.in_ok-codes.ensures.words;
       span_is = span;
       ready = first_ready d ∣ law ∣₁ codes.slots new c.in_ok-codes.ensures.slots long front state;
       first_is = c.in_ok-first.ensures;
@@ -62,6 +64,7 @@ invariant_of-result c =
       named = table_named d c.as_slice-5.result.now c.as_slice-6.result.now c.in_ok-names.names.entries c.as_slice-5.ensures
           c.as_slice-6.ensures c.in_ok-names.ensures;
       settled = λ t. absurd cc;
+      quiet = λ t. absurd cc;
     }
 
 pub table_of-requires-clause-parents : goal.table_of-requires-clause-parents

@@ -43,6 +43,8 @@ invariant_of-self c =
       placed = s.placed;
       settling_below = subst (λ n. ∥ AreBelow n (settling_code d order) ∥₁) (sym long) s.settling_below;
       clocking_below = subst (λ n. ∥ AreBelow n (clocking_code d) ∥₁) (sym long) s.clocking_below;
+      enough = s.enough;
+      words_is = s.words_is;
       span_is = s.span_is;
       ready = load_ready d s.lawful seen new s.ready long front state;
       first_is = s.first_is;
@@ -51,6 +53,7 @@ invariant_of-self c =
       are_outputs = s.are_outputs;
       named = s.named;
       settled = λ t. absurd cc;
+      quiet = λ t. absurd cc;
     }
 
 pub returns-clause-state : goal.returns-clause-state

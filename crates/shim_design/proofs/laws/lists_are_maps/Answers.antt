@@ -1,9 +1,0 @@
-use Rattle.shim_design.proofs.Maps.{lists_are_maps}
-use Rattle.shim_design.proofs.Memories.{memories_differ}
-use Rattle.shim_design.proofs.laws.lists_are_maps.Goals as goal
-
-pub returns-clause-maps : goal.returns-clause-maps
-returns-clause-maps c = lists_are_maps
-
-pub returns-clause-differ : goal.returns-clause-differ
-returns-clause-differ c = memories_differ
