@@ -84,7 +84,6 @@ struct Feeder<'a> {
     cycles: &'a [Cycle],
     /// That of the next cycle.
     feed: Feed,
-    ghost over: { IsFeedOver stage_channels feed },
     ghost stage: { map.now.channels ≡ stage_channels },
 }
 
@@ -92,7 +91,8 @@ impl<'a> Feeder<'a> {
     /// Before the first cycle.
     fn new(alloc: Global, map: &'a Map, cycles: &'a [Cycle]) -> Result<Feeder<'a>, Memory>
         requires { map.now.channels ≡ stage_channels }
-        ensures { IfOk result (λ feeder. feeder.map.now ≡ map.now) }
+        ensures map { IfOk result (λ feeder. feeder.map.now ≡ map.now) }
+        ensures fits { IfOk result (λ feeder. IsFeedOver stage_channels feeder.feed) }
     {
         let feed = feed_at(alloc, cycles, 0)?;
         Ok(Feeder {
@@ -105,7 +105,7 @@ impl<'a> Feeder<'a> {
 }
 
 impl Player<Feed> for Feeder<'_> {
-    ghost use Rattle.std.specs.Prelude.{Unit, false};
+    ghost use Rattle.std.specs.Prelude.{false};
 
     type Fault = Memory;
 
@@ -115,7 +115,7 @@ impl Player<Feed> for Feeder<'_> {
 
     ghost rule = { λ _ _ _. Unit {0} };
 
-    ghost stands = { λ first now _. now.map.now ≡ first.map.now };
+    ghost stands = { λ first now _. (now.map.now ≡ first.map.now) × IsFeedOver first.map.now.channels now.feed };
 
     ghost ends = { λ _ _ over. over ≡ false };
 

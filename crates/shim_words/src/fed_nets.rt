@@ -6,6 +6,7 @@ ghost use Rattle.vlog_tree.specs.Plain.{plain};
 ghost use Rattle.net_design.specs.declared.design.Design.{Design as OneDesign};
 ghost use Rattle.shim_runs.specs.trace_model.declared.row.Row.{Row as OneRow};
 ghost use Rattle.shim_runs.specs.trace_model.Channel.{IsTable};
+ghost use Rattle.shim_runs.specs.chan_replayer.Feed.{IsFeedOver};
 ghost use Rattle.shim_runs.specs.shim_cosim.Top.{IsWrapOf};
 
 use crate::line_feeder::{LineFeeder, go_through};
@@ -61,10 +62,11 @@ fn last_nets(
     requires table { IsTable map.now.channels }
     requires mapped { ⟦<RerunShell<'static, Sim> as ReplayShell>⟧.map shell.old ≡ map.now }
     requires same { feeder.old.map.now ≡ map.now }
+    requires fits { IsFeedOver map.now.channels feeder.old.feed }
 {
     let mut rows = TwoRows::new(alloc, &map.channels)?;
     go_through(shell, map, feeder, &mut rows)?;
-    shell.drive(feeder.feed(), &mut rows.row);
+    shell.drive(&feeder.feed, &mut rows.row);
     nets_of(alloc, shell, names)
 }
 

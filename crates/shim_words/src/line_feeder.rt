@@ -20,11 +20,10 @@ pub(crate) struct LineFeeder<'a> {
     alloc: Global,
     map: &'a Map,
     /// The feed of the line at which it stands.
-    feed: Feed,
+    pub(crate) feed: Feed,
     /// The lines behind that.
     behind: &'a [Line],
     ghost few: { length map.now.channels ≤ MOST_CHANNELS },
-    ghost fits: { IsFeedOver map.now.channels feed },
     ghost short: { length behind.now ≤ MOST_CYCLES },
 }
 
@@ -37,6 +36,7 @@ impl<'a> LineFeeder<'a> {
     ) -> Result<LineFeeder<'a>, Ended>
         requires few { length map.now.channels ≤ MOST_CHANNELS }
         ensures map { IfOk result (λ feeder. feeder.map.now ≡ map.now) }
+        ensures fits { IfOk result (λ feeder. IsFeedOver map.now.channels feeder.feed) }
     {
         let Some((first, behind)) = lines.split_first() else {
             return Err(Ended::Usage);
@@ -52,17 +52,10 @@ impl<'a> LineFeeder<'a> {
             behind,
         })
     }
-
-    /// The feed of the line at which it stands.
-    pub(crate) fn feed(&self) -> &Feed
-        ensures { IsFeedOver self.now.map.now.channels result.now }
-    {
-        &self.feed
-    }
 }
 
 impl Player<Feed> for LineFeeder<'_> {
-    ghost use Rattle.std.specs.Prelude.{Unit, false};
+    ghost use Rattle.std.specs.Prelude.{false};
 
     type Fault = Ended;
 
@@ -72,11 +65,11 @@ impl Player<Feed> for LineFeeder<'_> {
 
     ghost rule = { λ _ _ _. Unit {0} };
 
-    ghost stands = { λ first now _. now.map.now ≡ first.map.now };
+    ghost stands = { λ first now _. (now.map.now ≡ first.map.now) × IsFeedOver first.map.now.channels now.feed };
 
     ghost ends = { λ _ _ over. over ≡ false };
 
-    ghost broke = { λ first now _ _. now.map.now ≡ first.map.now };
+    ghost broke = { λ _ _ _ _. Unit {0} };
 
     fn is_done(&self, _last: &Row) -> bool {
         false
@@ -105,10 +98,11 @@ pub(crate) fn go_through<S: ReplayShell>(
 ) -> Result<(), Ended>
     requires mapped { S.map shell.old ≡ map.now }
     requires same { feeder.old.map.now ≡ map.now }
+    requires fits { IsFeedOver map.now.channels feeder.old.feed }
     requires rows { AreOver map.now.channels rows.old }
     requires silent { rows.old.last.valids ≡ 0 }
     ensures mapped { S.map shell.new ≡ S.map shell.old }
-    ensures same { OnOk result (feeder.new.map.now ≡ map.now) }
+    ensures fits { OnOk result (IsFeedOver map.now.channels feeder.new.feed) }
     ensures rows { AreOver map.now.channels rows.new }
 {
     let cycles = feeder.behind.len() as u32;
