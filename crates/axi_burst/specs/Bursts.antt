@@ -11,7 +11,7 @@ use Rattle.axi_burst.specs.declared.axi.Broken.{Broken}
 use Rattle.axi_burst.specs.declared.axi.Burst.{Burst}
 use Rattle.axi_burst.specs.declared.axi.Reads.{Reads}
 use Rattle.axi_burst.specs.declared.axi.Writes.{Writes}
-use Rattle.axi_burst.specs.Reading.{same}
+use Rattle.axi_burst.specs.Kinds.{same}
 use Rattle.axi_burst.specs.Transfers.{Address, Transfer, addresses, field, transfers}
 
 abbrev pub broken : ℕ → ℕ → ℕ → Broken

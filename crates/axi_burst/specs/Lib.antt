@@ -1,5 +1,8 @@
 pub mod Forms
+pub mod Kinds
 pub mod Reading
+pub mod Ports
+pub mod Binding
 pub mod Transfers
 pub mod Bursts
 pub mod Example

@@ -1,5 +1,8 @@
 //! What an AXI file says.
 
+ghost use Rattle.std.specs.Prelude.{◌≡◌, true};
+ghost use Rattle.axi_burst.specs.Kinds.{is_whole};
+
 use vidi_lines::vidi_bits::{Items, Name, Numbers};
 
 /// One of the five channels of an AXI4 port (IHI 0022, A1.2).
@@ -32,7 +35,7 @@ pub enum Entry {
     },
     /// How many words a memory has.
     Memory {
-        words: u128,
+        words: u32,
     },
     /// The places of the data and the strobes of `w`, and of the data of `r`.
     Data {
@@ -50,9 +53,11 @@ pub struct AxiLine {
 /// A list of lines that have words, in the order of the text.
 pub type AxiLines = Items<AxiLine>;
 
-/// An AXI file that was read: the data bus's bytes, and what the lines behind the first one with words say.
+/// An AXI file that was read: the data bus's bytes, and what the lines behind the first one with words say. The channels of writes
+/// are all there or all absent, those of reads likewise, and some are there.
 #[derive(Drop)]
 pub struct AxiText {
     pub beat: u32,
     pub lines: AxiLines,
+    ghost whole: { is_whole lines ≡ true },
 }

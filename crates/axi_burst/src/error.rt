@@ -13,6 +13,9 @@ pub enum AxiError {
     /// missing.
     #[error("line {line}: no line of an AXI file")]
     Line { line: u32 },
+    /// A2: the line that doesn't fit the channels.
+    #[error("line {line}: no port of an AXI file")]
+    Port { line: u32 },
     #[error("out of memory")]
     Memory,
 }

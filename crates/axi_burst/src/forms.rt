@@ -21,7 +21,8 @@ pub enum Keyword {
     Data,
 }
 
-fn is_word(word: &[u8], text: &[u8]) -> bool
+/// Whether a word has these bytes.
+pub(crate) fn is_word(word: &[u8], text: &[u8]) -> bool
     ensures { result ≡ bytes_eq word.now text.now }
 {
     word == text
@@ -141,7 +142,9 @@ fn memory_of(words: &[Name]) -> Option<Entry>
     if words < 1 || words > MOST_WORDS {
         return None;
     }
-    Some(Entry::Memory { words })
+    Some(Entry::Memory {
+        words: words as u32,
+    })
 }
 
 fn data_of(alloc: Global, words: &[Name]) -> Result<Option<Entry>, Memory>

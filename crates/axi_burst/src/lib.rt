@@ -1,18 +1,22 @@
 //! AXI4 bursts (AMBA AXI4, IHI 0022; this project's profile): the AXI file, which says what the channels of a trace are, and
 //! what bursts and broken rules a trace has.
 //!
-//! The definitions stand in `specs/`: `Forms` and `Reading` (the AXI file), `Transfers` and `Bursts` (the rules).
+//! The definitions stand in `specs/`: `Forms` and `Reading` (the AXI file), `Ports` and `Binding` (the channels), `Transfers` and `Bursts` (the rules).
 #![tactic(auto)]
 
 mod axi;
 mod axi_text;
+mod binding;
 mod error;
 mod forms;
 mod laws;
+mod ports;
 mod reading;
 
 pub use axi::{AddressPorts, Axi, Broken, Burst, Bursts, DataPorts, Reads, Writes};
 pub use axi_text::{AxiLine, AxiLines, AxiText, Entry, Places, Role};
+pub use binding::bind_axi;
 pub use error::AxiError;
 pub use laws::{examples, heads_advance};
 pub use reading::read_axi;
+pub use trace_model;

@@ -2,7 +2,8 @@
 
 ghost use Rattle.std.specs.Prelude.{◌≡◌, ◌<◌, ◌+◌, ◌^◌, ◌++◌, ◌∷◌, [], length, IfOk, OnOk};
 ghost use Rattle.std.specs.List.{list_any};
-ghost use Rattle.axi_burst.specs.Reading.{role_number, same_entry, is_of, is_said, has_role, same, is_whole, Takes, ReadsLines, ReadsAxi, read_lines};
+ghost use Rattle.axi_burst.specs.Kinds.{role_number, same_entry, is_of, is_said, has_role, same, is_whole};
+ghost use Rattle.axi_burst.specs.Reading.{Takes, ReadsLines, ReadsAxi, read_lines};
 
 use crate::axi_text::{AxiLine, AxiLines, AxiText, Entry, Role};
 use crate::error::AxiError;
@@ -58,7 +59,7 @@ fn is_said(lines: &[AxiLine], entry: &Entry) -> bool
     false
 }
 
-fn is_of(role: Role, entry: &Entry) -> bool
+pub(crate) fn is_of(role: Role, entry: &Entry) -> bool
     ensures { result ≡ is_of role entry.now }
 {
     match entry {
@@ -78,7 +79,7 @@ fn has_role(lines: &[AxiLine], role: Role) -> bool
     false
 }
 
-fn same(a: bool, b: bool) -> bool
+pub(crate) fn same(a: bool, b: bool) -> bool
     ensures { result ≡ same a b }
 {
     if a { b } else { !b }

@@ -2,4 +2,6 @@
 #![tactic(auto)]
 
 #[cfg(test)]
+mod bind_tests;
+#[cfg(test)]
 mod read_tests;

@@ -1,5 +1,5 @@
 use Rattle.std.proofs.Common.{◌≡◌, drop}
-use Rattle.axi_burst.specs.Reading.{has_role}
+use Rattle.axi_burst.specs.Kinds.{has_role}
 use Rattle.axi_burst.proofs.reading.has_role.Given as goal
 
 abbrev pub invariant-loop-l : goal.invariant-loop-l

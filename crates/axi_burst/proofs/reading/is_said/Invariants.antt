@@ -1,5 +1,5 @@
 use Rattle.std.proofs.Common.{◌≡◌, drop}
-use Rattle.axi_burst.specs.Reading.{is_said}
+use Rattle.axi_burst.specs.Kinds.{is_said}
 use Rattle.axi_burst.proofs.reading.is_said.Given as goal
 
 abbrev pub invariant-loop-l : goal.invariant-loop-l
