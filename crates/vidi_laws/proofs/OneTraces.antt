@@ -12,7 +12,7 @@ use Rattle.vidi_commands.specs.report_text.declared.reason.Reason.TheVariants.{B
 use Rattle.vidi_commands.specs.vidi_bench.declared.status.Status.TheVariants.{Done, Refused, Diverged}
 use Rattle.vidi_commands.specs.report_text.Reason.{reason_line}
 use Rattle.vidi_commands.specs.Said.{diverged_text}
-use Rattle.vidi_commands.specs.vidi_bench.Steps.{Ending, IsRefusal, IsSaid}
+use Rattle.vidi_commands.specs.vidi_bench.Steps.{Ending, IsRefusal}
 use Rattle.vidi_commands.specs.trace_commands.Traces.{IsNoTrace, Decoding, HasOtherChannels, IsVerdict}
 use Rattle.vidi_laws.proofs.OneEnding.{Same, One, one-said, one-step-by}
 
