@@ -1,10 +1,4 @@
 pub mod WordLists
-pub mod Facts
-pub mod RecordFacts
-pub mod ReplayFacts
-pub mod SalvageFacts
-pub mod WrapFacts
-pub mod CommandFacts
 pub mod Saying
 pub mod Starting
 pub use Rattle.sample_command.proofs.bench_run_lemmas as bench_run_lemmas
