@@ -2,6 +2,7 @@
 use Rattle.std.specs.Prelude.{◌≡◌, ℕ, ◌+◌, ◌*◌, ◌≤◌, ◌==◌, ◌&&◌, Bool, true}
 use Rattle.std.specs.Prelude.{false, not, List, Some, length, take, slice_get, nat_le, sum_by, if◌then◌else◌}
 use Rattle.std.specs.List.{enumerate_from}
+use Rattle.trace_model.specs.declared.packet.TheConstants.{RESET_LEN}
 use Rattle.trace_model.specs.Length.{head_len, sizes_under}
 
 -- R_c: a packet of the start with the content, and one of the end; `head` is H, the length of a packet without contents
@@ -14,7 +15,7 @@ need sizes = sum_by (whole (head_len (length sizes))) sizes
 
 -- the bytes of the packet of a reset
 abbrev pub reset_len : ℕ
-reset_len = 3
+reset_len = RESET_LEN
 
 -- what the permit to reset reserves: those bytes, where there may be resets and it is up
 abbrev pub permit_room : Bool → Bool → ℕ

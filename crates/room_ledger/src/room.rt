@@ -10,10 +10,10 @@ ghost use Rattle.room_ledger.specs.Ledger.{empty, claimed, may_reset, MayEmit, E
 ghost use Rattle.room_ledger.specs.Refusal.{Refuses};
 
 use crate::error::RoomError;
-use crate::sums::{RESET_LEN, event_len, head_of, least, permit_room, raised, reserved, sizes_of};
+use crate::sums::{event_len, head_of, least, permit_room, raised, reserved, sizes_of};
 use std::alloc::Global;
 use std::marker::Model;
-use trace_model::{Channels, all_up, names};
+use trace_model::{Channels, RESET_LEN, all_up, names};
 
 /// The most content bytes of all channels of a room together, at least as many as those of a table.
 pub const ROOM_CONTENT_BYTES: u32 = 2_048;
@@ -118,11 +118,11 @@ impl Room {
         ensures next { IsReset self.old self.new }
         ensures room { claimed self.new ≤ self.new.capacity }
     {
-        self.used += RESET_LEN;
+        self.used += RESET_LEN as u32;
         self.permit = false;
         self.gates &= !self.flying;
         self.flying = 0;
-        RESET_LEN
+        RESET_LEN as u32
     }
 
     /// Takes out the bytes that drain, and gives their number: at most the allowance, None for all.

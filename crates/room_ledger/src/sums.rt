@@ -11,10 +11,7 @@ ghost use Rattle.room_ledger.specs.Raising.{raise};
 
 use crate::error::RoomError;
 use std::alloc::Global;
-use trace_model::{Channel, content_len, head_len, names};
-
-/// The bytes of the packet of a reset.
-pub(crate) const RESET_LEN: u32 = 3;
+use trace_model::{Channel, RESET_LEN, content_len, head_len, names};
 
 /// The length in bytes of a packet of these channels without contents.
 pub(crate) fn head_of(sizes: &[u32]) -> u32
@@ -57,14 +54,22 @@ pub(crate) fn least(sizes: &[u32], resets: bool) -> u32
     ensures { result ≡ least sizes.now resets }
 {
     let need = need(sizes, head_of(sizes));
-    if resets { need + RESET_LEN } else { need }
+    if resets {
+        need + RESET_LEN as u32
+    } else {
+        need
+    }
 }
 
 /// What the permit to reset reserves.
 pub(crate) fn permit_room(resets: bool, permit: bool) -> u32
     ensures { result ≡ permit_room resets permit }
 {
-    if resets && permit { RESET_LEN } else { 0 }
+    if resets && permit {
+        RESET_LEN as u32
+    } else {
+        0
+    }
 }
 
 /// The bytes of the contents of the channels that start.

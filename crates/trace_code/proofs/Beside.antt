@@ -1,5 +1,5 @@
 -- Cursors that stand at one packet.
-use Rattle.std.proofs.Common.{◌≡◌, ℕ, zero, suc, ◌<◌, ◌≤◌, List, [], ◌∷◌, length, drop, ⊎_elim, ap, sym, subst, ◌∙◌, arith}
+use Rattle.std.proofs.Common.{◌≡◌, ℕ, zero, suc, ◌<◌, ◌≤◌, Bool, List, [], ◌∷◌, length, drop, ⊎_elim, ap, sym, subst, ◌∙◌, arith}
 use Rattle.std.specs.List.{flat_map}
 use Rattle.std.proofs.lemmas.Bool.{cases_lt}
 use Rattle.std.proofs.lemmas.List.{length-append}
@@ -12,7 +12,9 @@ use Rattle.vec_clock.specs.trace_model.Counting.{IsNth}
 use Rattle.vec_clock.specs.trace_model.Packet.{does}
 use Rattle.vec_clock.proofs.trace_model_lemmas.CountingLemmas.{nth-within}
 use Rattle.trace_code.specs.Encoding.{packet_bytes, end_mark}
+use Rattle.trace_code.specs.Counted.{Counted}
 use Rattle.trace_code.specs.Standing.{StandsAt, bytes_from}
+use Rattle.trace_code.proofs.PacketLaws.{packet_some}
 use Rattle.trace_code.proofs.Walking.{place-is}
 
 -- the packets from one on
@@ -33,7 +35,7 @@ fewer cs (x ∷ ps) (suc p) zero l m = absurd (omega (arith, l))
 fewer cs (x ∷ ps) zero (suc q) l m =
     let k = most cs ps q in
     let e = length-append (packet_bytes cs x) (flat_map (packet_bytes cs) ps) in
-    let some : 1 ≤ length (packet_bytes cs x) = omega arith in
+    let some = packet_some cs x in
     omega (arith, k, e, some)
 fewer cs (x ∷ ps) (suc p) (suc q) l m = fewer cs ps p q (omega (arith, l)) (omega (arith, m))
 
@@ -56,11 +58,12 @@ one-place t p q k l e = ⊎_elim
     (cases_lt p q)
 
 -- the other's event is in packet p where as many bytes are left
-pub beside : (t : Trace) (kind other : Kind) (c d i j : ℕ) (sizes rest clock sizes2 rest2 clock2 : List ℕ) {starts ends starts2 ends2 : ℕ}
-    (s : StandsAt t kind c i sizes rest clock starts ends) (u : StandsAt t other d j sizes2 rest2 clock2 starts2 ends2) (p : ℕ) (packet : Packet)
+pub beside : (t : Trace) (kind other : Kind) (c d i j : ℕ) (sizes rest : List ℕ) (counts : Counted) (sizes2 rest2 : List ℕ)
+    (counts2 : Counted) {reset reset2 : Bool} {starts ends starts2 ends2 : ℕ}
+    (s : StandsAt t kind c i sizes rest counts reset starts ends) (u : StandsAt t other d j sizes2 rest2 counts2 reset2 starts2 ends2) (p : ℕ) (packet : Packet)
     → IsNth (does kind c) t.packets i p packet → length rest ≡ length rest2 → IsNth (does other d) t.packets j p packet
-beside t kind other c d i j sizes rest clock sizes2 rest2 clock2 s u p packet is e =
-    let here = place-is t kind c i sizes rest clock s p packet is in
+beside t kind other c d i j sizes rest counts sizes2 rest2 counts2 s u p packet is e =
+    let here = place-is t kind c i sizes rest counts s p packet is in
     let l = nth-within (does kind c) t.packets i p packet is in
     let same : u.place ≡ p =
     sym (one-place t s.place u.place s.at.within u.at.within (sym (ap length s.at.parts) ∙ e ∙ ap length u.at.parts)) ∙ here in
@@ -68,10 +71,11 @@ beside t kind other c d i j sizes rest clock sizes2 rest2 clock2 s u p packet is
     let at = subst (λ k. IsNth (does other d) t.packets j k next.0) same next.1 in
     subst (λ (x : Packet). IsNth (does other d) t.packets j p x) (same_Some next.0 packet (sym at.at ∙ is.at)) at
 
-pub not-beside : (t : Trace) (kind other : Kind) (c d i j : ℕ) (sizes rest clock sizes2 rest2 clock2 : List ℕ) {starts ends starts2 ends2 : ℕ}
-    (s : StandsAt t kind c i sizes rest clock starts ends) (u : StandsAt t other d j sizes2 rest2 clock2 starts2 ends2) (p : ℕ) (packet : Packet)
+pub not-beside : (t : Trace) (kind other : Kind) (c d i j : ℕ) (sizes rest : List ℕ) (counts : Counted) (sizes2 rest2 : List ℕ)
+    (counts2 : Counted) {reset reset2 : Bool} {starts ends starts2 ends2 : ℕ}
+    (s : StandsAt t kind c i sizes rest counts reset starts ends) (u : StandsAt t other d j sizes2 rest2 counts2 reset2 starts2 ends2) (p : ℕ) (packet : Packet)
     → IsNth (does kind c) t.packets i p packet → IsNth (does other d) t.packets j p packet → length rest ≡ length rest2
-not-beside t kind other c d i j sizes rest clock sizes2 rest2 clock2 s u p packet is too =
-    let here = place-is t kind c i sizes rest clock s p packet is in
-    let there = place-is t other d j sizes2 rest2 clock2 u p packet too in
+not-beside t kind other c d i j sizes rest counts sizes2 rest2 counts2 s u p packet is too =
+    let here = place-is t kind c i sizes rest counts s p packet is in
+    let there = place-is t other d j sizes2 rest2 counts2 u p packet too in
     ap length s.at.parts ∙ ap (λ k. length (bytes_from t k)) (here ∙ sym there) ∙ sym (ap length u.at.parts)

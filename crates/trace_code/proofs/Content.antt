@@ -1,5 +1,5 @@
 -- Where the content of a start stands among the bytes.
-use Rattle.std.proofs.Common.{◌≡◌, ℕ, zero, suc, ◌+◌, ◌^◌, ◌<◌, ◌≤◌, true, cond, List, [], ◌∷◌, ◌++◌, Option, Some, length, get_or, take, drop}
+use Rattle.std.proofs.Common.{◌≡◌, ℕ, zero, suc, ◌+◌, ◌^◌, ◌<◌, ◌≤◌, Bool, true, false, cond, List, [], ◌∷◌, ◌++◌, Option, Some, length, get_or, take, drop}
 use Rattle.std.proofs.Common.{slice_get, map, sum_by, refl, sym, ap, subst, ◌∙◌, append_assoc, arith, All}
 use Rattle.std.specs.Int.{bytes_high_first}
 use Rattle.std.proofs.Math.Seq.{drop-append_seam, drop-drop}
@@ -15,7 +15,7 @@ use Rattle.vec_clock.specs.trace_model.declared.trace.Trace.{Trace}
 use Rattle.vec_clock.specs.trace_model.Channel.{byte_count, content_bytes, IsChannel}
 use Rattle.vec_clock.specs.vidi_bits.Number.{has}
 use Rattle.vec_clock.specs.trace_model.Counting.{IsNth}
-use Rattle.vec_clock.specs.trace_model.Length.{mask_len, contents_len, sizes_under}
+use Rattle.vec_clock.specs.trace_model.Length.{head_len, contents_len, sizes_under}
 use Rattle.vec_clock.specs.trace_model.Packet.{content_of, count, does, widths_of, widths_under, Fit, IsPacket}
 use Rattle.vec_clock.proofs.trace_model_lemmas.CountingLemmas.{nth-unique}
 use Rattle.vec_clock.proofs.trace_model_lemmas.ContentsLemmas.{content-fits, fit-at, fit-length, widths-front, widths-suc}
@@ -24,11 +24,14 @@ use Rattle.trace_code.specs.PacketReading.{high_value}
 use Rattle.trace_code.proofs.NumberLaws.{number_again}
 use Rattle.trace_code.proofs.Picking.{number_bytes-append, number_bytes-length}
 use Rattle.trace_code.proofs.RowBytes.{contents_len-widths, contents-least}
+use Rattle.vec_clock.proofs.trace_model_lemmas.TraceLaws.{event-row}
 use Rattle.trace_code.specs.declared.cursor.Cursor.{Cursor}
+use Rattle.trace_code.specs.Counted.{Counted}
+use Rattle.trace_code.specs.Heads.{front_len}
 use Rattle.trace_code.specs.Standing.{IsAt, StandsAt, bytes_from}
 use Rattle.trace_code.specs.Stands.{IsOf}
 use Rattle.trace_code.proofs.Here.{Here, sized-part}
-use Rattle.trace_code.proofs.Walking.{sizes-len, Read, not-over, masks-read}
+use Rattle.trace_code.proofs.Walking.{sizes-len, Read, behind-front, head-read, not-over}
 
 -- ---- a number that is read
 number-read : (w n : ℕ) (rest : List ℕ) → n < 2 ^ w → high_value (take (byte_count w) (bytes_high_first (byte_count w) n ++ rest)) ≡ n
@@ -104,16 +107,15 @@ own cs p c x lawful at starts =
     }
 
 -- what stands behind the contents of the channels below
-pub own-there : (t : Trace) (p : ℕ) (sizes rest clock : List ℕ) (starts ends : ℕ) (contents back : List ℕ) (c size : ℕ) (x : Channel)
-    → IsAt t p sizes rest clock → (r : Read t p sizes rest clock starts ends contents) → slice_get t.channels c ≡ Some x
+pub own-there : (t : Trace) (p : ℕ) (sizes rest : List ℕ) (counts : Counted) (reset : Bool) (starts ends : ℕ) (contents back : List ℕ) (c size : ℕ) (x : Channel)
+    → IsAt t p sizes rest counts → (r : Read t p sizes rest reset starts ends contents) → slice_get t.channels c ≡ Some x
     → has r.here_is.packet.starts c ≡ true → size ≡ sizes_under starts (take c sizes) → back ≡ drop size contents
     → (more : List ℕ) × (back ≡ number_bytes x.widths (content_of t.channels r.here_is.packet c) ++ more) × (size ≤ length contents)
-own-there t p sizes rest clock starts ends contents back c size x at r there up s b =
+own-there t p sizes rest counts reset starts ends contents back c size x at r there up s b =
     let h = r.here_is in
     let o = own t.channels h.packet c x h.lawful there up in
-    let m = mask_len (length sizes) in
     let text : contents ≡ o.front ++ ((number_bytes x.widths (content_of t.channels h.packet c) ++ o.more) ++ bytes_from t (suc p)) =
-    r.contents_is ∙ h.contents ∙ ap (λ bs. bs ++ bytes_from t (suc p)) o.parts
+    r.contents_is ∙ behind-front t p sizes rest reset starts ends contents r ∙ ap (λ bs. bs ++ bytes_from t (suc p)) o.parts
     ∙ append_assoc o.front (number_bytes x.widths (content_of t.channels h.packet c) ++ o.more) (bytes_from t (suc p)) in
     let front-sizes : take c sizes ≡ map content_bytes (take c t.channels) = ap (take c) at.sizes_are ∙ take-map content_bytes c t.channels in
     let len : size ≡ length o.front =
@@ -128,17 +130,17 @@ own-there t p sizes rest clock starts ends contents back c size x at r there up 
           omega (arith, k, j, len)),
     )
 
-pub own-fits : (t : Trace) (p m : ℕ) (rest : List ℕ) (h : Here t p m rest) (c : ℕ) (x : Channel) → slice_get t.channels c ≡ Some x
+pub own-fits : (t : Trace) (p n : ℕ) (rest : List ℕ) (h : Here t p n rest) (c : ℕ) (x : Channel) → slice_get t.channels c ≡ Some x
     → has h.packet.starts c ≡ true → Fit x.widths (content_of t.channels h.packet c)
-own-fits t p m rest h c x at up = content-fits t.channels h.packet c x h.lawful.contents at up
+own-fits t p n rest h c x at up = content-fits t.channels h.packet c x h.lawful.contents at up
 
 -- ---- the parts of a channel
 pub small-widths : (widths : List ℕ) → All (λ w. (1 ≤ w) × (w ≤ 128)) widths → All (λ w. w ≤ 128) widths
 small-widths widths all = All-from_get_or (λ w. w ≤ 128) widths 0 (λ i l. (All-get_or (λ w. (1 ≤ w) × (w ≤ 128)) widths i 0 l all).1)
 
-pub channel-of : (t : Trace) (p : ℕ) (sizes rest clock : List ℕ) → IsAt t p sizes rest clock → (c : ℕ) (x : Channel)
+pub channel-of : (t : Trace) (p : ℕ) (sizes rest : List ℕ) (counts : Counted) → IsAt t p sizes rest counts → (c : ℕ) (x : Channel)
     → slice_get t.channels c ≡ Some x → IsChannel x
-channel-of t p sizes rest clock at c x there =
+channel-of t p sizes rest counts at c x there =
     subst IsChannel (get_or_from_slice_get t.channels c x x there)
     (All-get_or IsChannel t.channels c x (slice_get_within t.channels c x there) at.encoding.table.each)
 
@@ -150,57 +152,77 @@ port-there t k of port l =
     subst (λ (ws : List ℕ). port < length ws) e l
 
 -- a cursor at a start
-pub record AtStart (t : Trace) (c j : ℕ) (sizes rest clock : List ℕ) (starts ends : ℕ) (contents : List ℕ) : Type 0 where
+pub record AtStart (t : Trace) (c j : ℕ) (sizes rest : List ℕ) (counts : Counted) (reset : Bool) (starts ends : ℕ) (contents : List ℕ)
+    : Type 0 where
   pub p : ℕ
-  pub at : IsAt t p sizes rest clock
-  pub read : Read t p sizes rest clock starts ends contents
+  pub at : IsAt t p sizes rest counts
+  pub read : Read t p sizes rest reset starts ends contents
+  pub long : head_len (length sizes) ≤ length rest
   pub up : has read.here_is.packet.starts c ≡ true
   pub is : IsNth (does Start c) t.packets j p read.here_is.packet
 
-pub at-start : (t : Trace) (kind : Kind) (c j : ℕ) (sizes rest clock : List ℕ) (starts ends : ℕ) (contents : List ℕ)
-    → StandsAt t kind c j sizes rest clock starts ends → kind ≡ Start → j < count kind c t.packets
-    → contents ≡ drop (mask_len (length sizes)) (drop (mask_len (length sizes)) (drop 1 rest))
-    → AtStart t c j sizes rest clock starts ends contents
-at-start t kind c j sizes rest clock starts ends contents s k more d =
-    let l = not-over t kind c j sizes rest clock s more in
-    let r = masks-read t s.place sizes rest clock starts ends contents s.at l (s.masks l) d in
+pub at-start : (t : Trace) (kind : Kind) (c j : ℕ) (sizes rest : List ℕ) (counts : Counted) (reset : Bool) (starts ends : ℕ)
+    (contents : List ℕ) → StandsAt t kind c j sizes rest counts reset starts ends → kind ≡ Start → j < count kind c t.packets
+    → contents ≡ drop (head_len (length sizes)) rest → AtStart t c j sizes rest counts reset starts ends contents
+at-start t kind c j sizes rest counts reset starts ends contents s k more d =
+    let n = length sizes in
+    let l = not-over t kind c j sizes rest counts s more in
+    let r = head-read t s.place sizes rest counts reset starts ends _ s.at l (s.head l) refl in
+    let h = r.here_is in
     let e = s.next l in
-    let same : e.0 ≡ r.here_is.packet = same_Some e.0 r.here_is.packet (sym e.1.at ∙ r.here_is.at) in
-    let is : IsNth (does Start c) t.packets j s.place r.here_is.packet =
+    let same : e.0 ≡ h.packet = same_Some e.0 h.packet (sym e.1.at ∙ h.at) in
+    let is : IsNth (does Start c) t.packets j s.place h.packet =
     subst (λ (q : Packet). IsNth (does Start c) t.packets j s.place q) same (subst (λ (i : Kind). IsNth (does i c) t.packets j s.place e.0) k e.1) in
-    record { p = s.place; at = s.at; read = r; up = is.passes; is = is }
+    let row : h.packet.reset ≡ false = event-row t.channels h.packet c h.lawful is.passes in
+    let no : reset ≡ false = r.reset_is ∙ row in
+    let size : front_len n h.packet.reset ≡ head_len n = ap (front_len n) row in
+    let long = h.long in
+    record {
+      p = s.place;
+      at = s.at;
+      read = record {
+        here_is = h;
+        reset_is = r.reset_is;
+        starts_is = r.starts_is;
+        ends_is = r.ends_is;
+        contents_is = d ∙ ap (λ b. drop (front_len n b) rest) (sym no);
+      };
+      long = omega (arith, size, long);
+      up = is.passes;
+      is = is;
+    }
 
 -- the number of a port of it
-pub content-is : (t : Trace) (c j : ℕ) (sizes rest clock : List ℕ) (starts ends : ℕ) (contents back : List ℕ) (size : ℕ) (x : Channel)
-    → (a : AtStart t c j sizes rest clock starts ends contents) → slice_get t.channels c ≡ Some x
+pub content-is : (t : Trace) (c j : ℕ) (sizes rest : List ℕ) (counts : Counted) (reset : Bool) (starts ends : ℕ) (contents back : List ℕ) (size : ℕ) (x : Channel)
+    → (a : AtStart t c j sizes rest counts reset starts ends contents) → slice_get t.channels c ≡ Some x
     → size ≡ sizes_under starts (take c sizes) → back ≡ drop size contents → (port : ℕ) → port < length x.widths → (p : ℕ) (packet : Packet)
     → IsNth (does Start c) t.packets j p packet
     → high_value (take (byte_count (get_or x.widths port 0)) (drop (sum_by byte_count (take port x.widths)) back))
     ≡ get_or (content_of t.channels packet c) port 0
-content-is t c j sizes rest clock starts ends contents back size x a there s b port l p packet is =
-    let o = own-there t a.p sizes rest clock starts ends contents back c size x a.at a.read there a.up s b in
+content-is t c j sizes rest counts reset starts ends contents back size x a there s b port l p packet is =
+    let o = own-there t a.p sizes rest counts reset starts ends contents back c size x a.at a.read there a.up s b in
     let h = a.read.here_is in
     let same : h.packet ≡ packet = (nth-unique (does Start c) t.packets j a.p p h.packet packet a.is is).1 in
     ap (λ bs. high_value (take (byte_count (get_or x.widths port 0)) (drop (sum_by byte_count (take port x.widths)) bs))) o.1
     ∙ port-number x.widths (content_of t.channels h.packet c) o.0 port
-    (own-fits t a.p (mask_len (length sizes)) rest h c x there a.up) l
+    (own-fits t a.p (length sizes) rest h c x there a.up) l
     ∙ ap (λ (q : Packet). get_or (content_of t.channels q c) port 0) same
 
-pub below-within : (t : Trace) (c j : ℕ) (sizes rest clock : List ℕ) (starts ends : ℕ) (contents : List ℕ) (size : ℕ) (x : Channel)
-    → (a : AtStart t c j sizes rest clock starts ends contents) → slice_get t.channels c ≡ Some x
+pub below-within : (t : Trace) (c j : ℕ) (sizes rest : List ℕ) (counts : Counted) (reset : Bool) (starts ends : ℕ) (contents : List ℕ) (size : ℕ) (x : Channel)
+    → (a : AtStart t c j sizes rest counts reset starts ends contents) → slice_get t.channels c ≡ Some x
     → size ≡ sizes_under starts (take c sizes) → (size ≤ length contents) × (content_bytes x ≤ length (drop size contents))
-below-within t c j sizes rest clock starts ends contents size x a there s =
-    let o = own-there t a.p sizes rest clock starts ends contents (drop size contents) c size x a.at a.read there a.up s refl in
+below-within t c j sizes rest counts reset starts ends contents size x a there s =
+    let o = own-there t a.p sizes rest counts reset starts ends contents (drop size contents) c size x a.at a.read there a.up s refl in
     let h = a.read.here_is in
-    let fit = own-fits t a.p (mask_len (length sizes)) rest h c x there a.up in
+    let fit = own-fits t a.p (length sizes) rest h c x there a.up in
     let n = number_bytes-length x.widths (content_of t.channels h.packet c) (sym (fit-length x.widths (content_of t.channels h.packet c) fit)) in
     let e = ap length o.1 in
     let k = length-append (number_bytes x.widths (content_of t.channels h.packet c)) o.0 in
     (o.2, omega (arith, n, e, k))
 
-pub small-front : (t : Trace) (p : ℕ) (sizes rest clock : List ℕ) → IsAt t p sizes rest clock → (starts c : ℕ)
+pub small-front : (t : Trace) (p : ℕ) (sizes rest : List ℕ) (counts : Counted) → IsAt t p sizes rest counts → (starts c : ℕ)
     → sizes_under starts (take c sizes) < 2 ^ 32
-small-front t p sizes rest clock at starts c =
+small-front t p sizes rest counts at starts c =
     let front-sizes : take c sizes ≡ map content_bytes (take c t.channels) = ap (take c) at.sizes_are ∙ take-map content_bytes c t.channels in
     let a = sizes-len starts (take c t.channels) (take c sizes) front-sizes in
     let b = contents_len-widths starts (take c t.channels) in

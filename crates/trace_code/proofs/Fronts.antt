@@ -9,12 +9,13 @@ use Rattle.vec_clock.specs.trace_model.declared.channel.Channel.{Channel}
 use Rattle.vec_clock.specs.trace_model.declared.packet.Packet.{Packet}
 use Rattle.vec_clock.specs.trace_model.declared.trace.Trace.{Trace}
 use Rattle.vec_clock.specs.trace_model.Packet.{IsPacket}
-use Rattle.vec_clock.proofs.trace_model_lemmas.FlightLemmas.{alternates-take}
+use Rattle.vec_clock.proofs.trace_model_lemmas.EpochLemmas.{throughout_from, throughout-take}
 use Rattle.trace_code.specs.declared.error.CodeError.{CodeError}
 use Rattle.trace_code.specs.declared.error.CodeError.TheVariants.{BadTrace, Memory}
 use Rattle.trace_code.specs.Encoding.{header_bytes, packet_bytes, end_mark, encode, HasEncoding}
 use Rattle.trace_code.specs.Decoding.{Splits, SplitsLongest, HasNoHeader}
 use Rattle.trace_code.specs.Salvage.{Salvages, OneSalvage, front, front_len, LieWhole, FrontIsSalvaged}
+use Rattle.trace_code.proofs.PacketLaws.{packet_some}
 use Rattle.trace_code.proofs.Readings.{apart, encoding-splits, same_trace, same-table, two-splits, one-longest}
 use Rattle.trace_code.proofs.Spelled.{GoesOn, ended, packets-few}
 
@@ -101,7 +102,7 @@ piece-splits t n j has l =
       record {
         table = has.table;
         each = All-take (IsPacket t.channels) j t.packets has.well_formed.packets;
-        alternate = alternates-take j t.packets has.well_formed.alternate;
+        alternate = throughout-take j t.packets (throughout_from t.packets has.well_formed.alternate);
         parts = ap (take n) whole ∙ front-past (header ++ one) (two ++ end) n (omega (arith, long, l)) ∙ append_assoc header one left;
       },
     )
@@ -149,7 +150,7 @@ pub split-few : (bytes : List ℕ) (cs : List Channel) (ps : List Packet) (rest 
     → length ps ≤ length bytes
 split-few bytes cs ps rest s = omega (
   arith,
-  packets-few (packet_bytes cs) (λ p. omega arith) ps,
+  packets-few (packet_bytes cs) (λ p. omega (arith, packet_some cs p)) ps,
   ap length s.parts,
   length-append (header_bytes cs) (flat_map (packet_bytes cs) ps ++ rest),
   length-append (flat_map (packet_bytes cs) ps) rest,

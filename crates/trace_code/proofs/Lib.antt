@@ -14,9 +14,9 @@ pub mod Picking
 pub mod RowBytes
 pub mod Tallying
 pub mod Totals
-pub mod Here
 pub mod Masks
-pub mod Words
+pub mod Counts
+pub mod Here
 pub mod Ahead
 pub mod Walking
 pub mod Content

@@ -1,5 +1,5 @@
 -- No bytes have two readings, and neither has a front of them.
-use Rattle.std.proofs.Common.{◌≡◌, ℕ, ◌+◌, ◌-◌, ◌^◌, ◌<◌, ◌≤◌, ◌⊎◌, List, [], ◌∷◌, ◌++◌, length, All, Ok, Err, inl, inr, ⊎_elim, refl, sym}
+use Rattle.std.proofs.Common.{◌≡◌, ◌≢◌, ℕ, ◌+◌, ◌-◌, ◌^◌, ◌<◌, ◌≤◌, ◌⊎◌, Bool, true, false, cond, List, [], ◌∷◌, ◌++◌, length, All, Ok, Err, inl, inr, ⊎_elim, refl, sym}
 use Rattle.std.proofs.Common.{ap, subst, ◌∙◌, arith}
 use Rattle.std.specs.List.{flat_map}
 use Rattle.std.proofs.lemmas.List.{append-nil, length-append}
@@ -10,10 +10,10 @@ use Rattle.vec_clock.specs.trace_model.declared.trace.Trace.{Trace}
 use Rattle.vec_clock.specs.trace_model.declared.packet.TheConstants.{MOST_CHANNELS}
 use Rattle.vec_clock.specs.trace_model.Channel.{IsTable}
 use Rattle.vec_clock.specs.trace_model.Packet.{IsPacket}
-use Rattle.vec_clock.specs.trace_model.Trace.{Alternates}
-use Rattle.vec_clock.proofs.trace_model_lemmas.FlightLemmas.{alternates-front}
+use Rattle.vec_clock.specs.trace_model.Trace.{AlternateThroughout}
+use Rattle.vec_clock.proofs.trace_model_lemmas.EpochLemmas.{epochs_alternate, throughout_from, throughout-front}
 use Rattle.trace_code.specs.declared.error.CodeError.TheVariants.{BadTrace, Memory}
-use Rattle.trace_code.specs.Encoding.{magic, table_bytes, header_bytes, packet_bytes, end_mark, encode, Encodes}
+use Rattle.trace_code.specs.Encoding.{magic, events_bytes, gap_bytes, table_bytes, header_bytes, packet_bytes, end_mark, encode, Encodes}
 use Rattle.trace_code.specs.Reading.{header_at, AreChannels}
 use Rattle.trace_code.specs.PacketReading.{packet_at, AreAll}
 use Rattle.trace_code.specs.Decoding.{Splits, SplitsLongest, HasNoHeader, IsBehindPackets, OneReading, OnePlace, ReadsBack}
@@ -48,7 +48,11 @@ same_packet cs p q xs ys hp hq e =
     (ap (λ (x : Packet × List ℕ). x.0) s, ap (λ (x : Packet × List ℕ). x.1) s)
 
 pub apart : (cs : List Channel) → EndsNowhere (packet_bytes cs)
-apart cs p n rest e = absurd cc
+apart cs p n rest = one p.reset
+  where
+    one : (b : Bool) → end_mark n ≢ cond b (2 ∷ gap_bytes p.gap) (1 ∷ (gap_bytes p.gap ++ events_bytes cs p.starts p.ends p.contents)) ++ rest
+    one true e = absurd cc
+    one false e = absurd cc
 
 -- ---- the whole
 
@@ -60,7 +64,7 @@ pub encoding-splits : (t : Trace) (bytes : List ℕ) → Encodes t bytes → Spl
 encoding-splits t bytes h = record {
   table = h.0.table;
   each = h.0.well_formed.packets;
-  alternate = h.0.well_formed.alternate;
+  alternate = throughout_from t.packets h.0.well_formed.alternate;
   parts = sym
       h.1;
 }
@@ -133,9 +137,9 @@ one_place bytes a b (inr p) (inr q) = both-behind bytes a b p q
 -- ---- what the code reads
 -- behind all packets none goes on
 none-more : (cs : List Channel) (bytes rest left : List ℕ) (ps qs : List Packet) → AreAll cs bytes ps rest → All (IsPacket cs) qs
-    → Alternates qs → GoesOn (packet_bytes cs) ps qs rest left → (qs ≡ ps) × (rest ≡ left)
+    → AlternateThroughout qs → GoesOn (packet_bytes cs) ps qs rest left → (qs ≡ ps) × (rest ≡ left)
 none-more cs bytes rest left ps qs all each alternate =
-    none-behind (IsPacket cs) (packet_bytes cs) Alternates alternates-front rest left ps qs all.last each alternate
+    none-behind (IsPacket cs) (packet_bytes cs) AlternateThroughout throughout-front rest left ps qs all.last each alternate
 
 -- the header and all packets behind it
 pub all-split : (cs : List Channel) (bytes body rest : List ℕ) (ps : List Packet) → IsTable cs → bytes ≡ header_bytes cs ++ body
@@ -204,7 +208,7 @@ place-behind cs bytes body rest ps at table whole all e = record {
 pub all-encoded : (cs : List Channel) (bytes body rest : List ℕ) (ps : List Packet) → IsTable cs → bytes ≡ header_bytes cs ++ body
     → AreAll cs body ps rest → (length ps < 2 ^ 32) × (rest ≡ end_mark (length ps)) → Encodes (record { channels = cs; packets = ps }) bytes
 all-encoded cs bytes body rest ps table whole all (few, end) = (
-  record { table = table; well_formed = record { packets = all.each; alternate = all.alternate }; few = few },
+  record { table = table; well_formed = record { packets = all.each; alternate = epochs_alternate ps all.alternate }; few = few },
   ap (λ bs. header_bytes cs ++ (flat_map (packet_bytes cs) ps ++ bs)) (sym end) ∙ ap (λ bs. header_bytes cs ++ bs) (sym all.parts)
       ∙ sym whole,
 )

@@ -4,7 +4,7 @@ use Rattle.std.proofs.Common.{suc, ◌==◌, map, take, drop, sum_by, refl, sym,
 use Rattle.std.specs.List.{filter, flat_map, enumerate_from}
 use Rattle.std.specs.Int.{bit_at}
 use Rattle.std.proofs.Math.Seq.{drop-drop}
-use Rattle.std.proofs.lemmas.Bool.{cases_Bool, cases_lt, false≢true, eq-eqb, eqb-true}
+use Rattle.std.proofs.lemmas.Bool.{cases_Bool, cases_lt, cond-false, cond-true, false≢true, eq-eqb, eqb-true}
 use Rattle.std.proofs.lemmas.List.{append-nil, length-append, length-take-le, take-append-drop, length-drop, length_push, take_at}
 use Rattle.std.proofs.lemmas.List.Concat.{flat_map-append}
 use Rattle.std.proofs.lemmas.List.Sums.{sum_by-cons, sum_by-append}
@@ -16,13 +16,13 @@ use Rattle.vec_clock.specs.trace_model.declared.packet.Packet.{Packet}
 use Rattle.vec_clock.specs.trace_model.declared.row.Row.{Row}
 use Rattle.vec_clock.specs.trace_model.Length.{mask_len, head_len, contents_len, longest_packet, packet_len}
 use Rattle.vec_clock.specs.trace_model.Packet.{Fit, widths_under}
-use Rattle.vec_clock.specs.trace_model.Recording.{has_event, packet_of, packets_of, contents_under}
+use Rattle.vec_clock.specs.trace_model.Recording.{after_gap, has_event, packet_of, packets_of, reset_packet, contents_under}
 use Rattle.vec_clock.specs.trace_model.Row.{all_widths, content_at}
 use Rattle.vec_clock.proofs.trace_model_lemmas.CountingLemmas.{take-more_read}
 use Rattle.vec_clock.proofs.trace_model_lemmas.ContentsLemmas.{fit-length}
 use Rattle.vec_clock.proofs.trace_model_lemmas.RowLaws.{content-behind, taken_of}
-use Rattle.trace_code.specs.Encoding.{mask_bytes, number_bytes, packet_bytes, row_bytes}
-use Rattle.trace_code.specs.Writing.{overwritten, picked, events_bytes}
+use Rattle.trace_code.specs.Encoding.{gap_bytes, mask_bytes, number_bytes, packet_bytes, row_bytes}
+use Rattle.trace_code.specs.Writing.{overwritten, picked, tagged_bytes}
 use Rattle.trace_code.proofs.NumberLaws.{length-low}
 use Rattle.trace_code.proofs.Overwriting.{over-next, over-front}
 use Rattle.trace_code.proofs.Picking.{number_bytes-length}
@@ -192,13 +192,13 @@ pub picked-all : (starts : ℕ) (cs : List Channel) (numbers : List ℕ) → len
 picked-all starts cs numbers few = all-behind starts cs numbers [] cs 0 refl refl (omega arith)
 
 -- ---- a packet, part by part
-abbrev Head : ℕ → ℕ → ℕ → List ℕ → List ℕ
-Head n starts ends numbers = 1 ∷ (mask_bytes n starts ++ (mask_bytes n ends ++ numbers))
+abbrev Head : ℕ → ℕ → ℕ → ℕ → List ℕ → List ℕ
+Head gap n starts ends numbers = 1 ∷ (gap_bytes gap ++ (mask_bytes n starts ++ (mask_bytes n ends ++ numbers)))
 
-pub record Parts (n s e : ℕ) (numbers : List ℕ) (buf b b' b'' new : List ℕ) (p p' p'' : ℕ) : Type 0 where
-  pub room : 1 + (length (mask_bytes n s) + length (mask_bytes n e)) + length numbers ≤ length buf
-  pub tag : b ≡ overwritten buf 0 (1 ∷ [])
-  pub tag-place : p ≡ 0 + 1
+pub record Parts (gap n s e : ℕ) (numbers : List ℕ) (buf b b' b'' new : List ℕ) (p p' p'' : ℕ) : Type 0 where
+  pub room : 3 + (length (mask_bytes n s) + length (mask_bytes n e)) + length numbers ≤ length buf
+  pub tag : b ≡ overwritten buf 0 (1 ∷ gap_bytes gap)
+  pub tag-place : p ≡ 0 + 3
   pub starts : b' ≡ overwritten b p (mask_bytes n s)
   pub starts-place : p' ≡ p + length (mask_bytes n s)
   pub ends : b'' ≡ overwritten b' p' (mask_bytes n e)
@@ -207,13 +207,13 @@ pub record Parts (n s e : ℕ) (numbers : List ℕ) (buf b b' b'' new : List ℕ
   pub b-long : length b ≡ length buf
   pub b'-long : length b' ≡ length buf
 
-pub parts-written : (n starts ends : ℕ) (numbers : List ℕ) (buf b b' b'' new : List ℕ) (p p' p'' place : ℕ)
-    → Parts n starts ends numbers buf b b' b'' new p p' p'' → place ≡ p'' + length numbers
-    → (new ≡ Head n starts ends numbers ++ drop place buf) × (place ≡ length (Head n starts ends numbers))
-parts-written n starts ends numbers buf b b' b'' new p p' p'' place w e =
+pub parts-written : (gap n starts ends : ℕ) (numbers : List ℕ) (buf b b' b'' new : List ℕ) (p p' p'' place : ℕ)
+    → Parts gap n starts ends numbers buf b b' b'' new p p' p'' → place ≡ p'' + length numbers
+    → (new ≡ Head gap n starts ends numbers ++ drop place buf) × (place ≡ length (Head gap n starts ends numbers))
+parts-written gap n starts ends numbers buf b b' b'' new p p' p'' place w e =
     let S = mask_bytes n starts in
     let E = mask_bytes n ends in
-    let long : place ≡ length (Head n starts ends numbers) = omega (
+    let long : place ≡ length (Head gap n starts ends numbers) = omega (
       arith,
       e,
       w.room,
@@ -223,12 +223,12 @@ parts-written n starts ends numbers buf b b' b'' new p p' p'' place w e =
       length-append S (E ++ numbers),
       length-append E numbers,
     ) in
-    let whole : new ≡ overwritten buf 0 (Head n starts ends numbers) =
+    let whole : new ≡ overwritten buf 0 (Head gap n starts ends numbers) =
     w.contents
     ∙ over-next b' b'' E numbers p' p'' (omega (arith, w.room, w.tag-place, w.starts-place, w.b'-long)) w.ends w.ends-place
     ∙ over-next b b' S (E ++ numbers) p p' (omega (arith, w.room, w.tag-place, w.b-long)) w.starts w.starts-place
-    ∙ over-next buf b (1 ∷ []) (S ++ (E ++ numbers)) 0 p (omega (arith, w.room)) w.tag w.tag-place in
-    (whole ∙ over-front buf (Head n starts ends numbers) ∙ ap (λ k. Head n starts ends numbers ++ drop k buf) (sym long), long)
+    ∙ over-next buf b (1 ∷ gap_bytes gap) (S ++ (E ++ numbers)) 0 p (omega (arith, w.room)) w.tag w.tag-place in
+    (whole ∙ over-front buf (Head gap n starts ends numbers) ∙ ap (λ k. Head gap n starts ends numbers ++ drop k buf) (sym long), long)
 
 -- ---- the packet of a row
 event-tests : (starts ends : ℕ) → not (eqb starts 0 && eqb ends 0) ≡ true → (eqb starts 0 && eqb ends 0) ≡ false
@@ -237,27 +237,27 @@ event-tests starts ends h = ⊎_elim
     (λ (f : (eqb starts 0 && eqb ends 0) ≡ false). f)
     (cases_Bool (eqb starts 0 && eqb ends 0))
 
-pub row-packet : (cs : List Channel) (row : Row) → length cs ≤ 128 → has_event row ≡ true
-    → events_bytes cs row.starts row.ends (picked every row.starts 0 cs row.contents) ≡ row_bytes cs row
-row-packet cs row few h =
-    ap (events_bytes cs row.starts row.ends) (picked-all row.starts cs row.contents few)
-    ∙ ap (λ b. cond b (packet_bytes cs (packet_of cs row)) []) (sym h)
+pub row-packet : (cs : List Channel) (gap : ℕ) (row : Row) → length cs ≤ 128 → has_event row ≡ true
+    → tagged_bytes cs gap row.starts row.ends (picked every row.starts 0 cs row.contents) ≡ row_bytes cs gap row
+row-packet cs gap row few h =
+    ap (tagged_bytes cs gap row.starts row.ends) (picked-all row.starts cs row.contents few)
+    ∙ ap (λ b. cond b (packet_bytes cs (after_gap gap (packet_of cs row))) []) (sym h)
 
 -- all numbers that a listing of every channel asks for are there
 pub every-there : (cs : List Channel) (numbers : List ℕ) → length cs ≤ 128 → Fit (all_widths cs) numbers
     → length (widths_under every cs) ≤ length numbers
 every-there cs numbers few f = omega (arith, ap length (every-widths cs few), fit-length (all_widths cs) numbers f)
 
-pub row-length : (cs : List Channel) (row : Row) → length cs ≤ 128 → row.starts < 2 ^ length cs → Fit (all_widths cs) row.contents
-    → has_event row ≡ true → length (row_bytes cs row) ≡ packet_len cs row.starts row.ends
-row-length cs row few starts f h =
+pub row-length : (cs : List Channel) (gap : ℕ) (row : Row) → length cs ≤ 128 → row.starts < 2 ^ length cs → Fit (all_widths cs) row.contents
+    → has_event row ≡ true → length (row_bytes cs gap row) ≡ packet_len cs row.starts row.ends
+row-length cs gap row few starts f h =
     let numbers = picked every row.starts 0 cs row.contents in
     let S = mask_bytes (length cs) row.starts in
     let E = mask_bytes (length cs) row.ends in
     let N = number_bytes (widths_under row.starts cs) numbers in
     let one = picked-length every row.starts 0 cs row.contents (among-every row.starts (length cs) few starts)
     (every-there cs row.contents few f) in
-    let size : length (events_bytes cs row.starts row.ends numbers) ≡ head_len (length cs) + contents_len row.starts cs =
+    let size : length (tagged_bytes cs gap row.starts row.ends numbers) ≡ head_len (length cs) + contents_len row.starts cs =
     omega (
       arith,
       length-append S (E ++ N),
@@ -268,37 +268,38 @@ row-length cs row few starts f h =
       number_bytes-length (widths_under row.starts cs) numbers one,
       contents_len-widths row.starts cs,
     ) in
-    ap length (sym (row-packet cs row few h)) ∙ size ∙ ap (λ b. cond b 0 (head_len (length cs) + contents_len row.starts cs))
+    ap length (sym (row-packet cs gap row few h)) ∙ size ∙ ap (λ b. cond b 0 (head_len (length cs) + contents_len row.starts cs))
     (sym (event-tests row.starts row.ends h))
 
-pub no-row-packet : (cs : List Channel) (row : Row) → has_event row ≡ false → (row_bytes cs row ≡ [])
+pub no-row-packet : (cs : List Channel) (gap : ℕ) (row : Row) → has_event row ≡ false → (row_bytes cs gap row ≡ [])
     × (packet_len cs row.starts row.ends ≡ 0)
-no-row-packet cs row h =
+no-row-packet cs gap row h =
     let none : (eqb row.starts 0 && eqb row.ends 0) ≡ true = ⊎_elim
     (λ (t : (eqb row.starts 0 && eqb row.ends 0) ≡ true). t)
     (λ (f : (eqb row.starts 0 && eqb row.ends 0) ≡ false). absurd (false≢true (sym h ∙ ap not f)))
     (cases_Bool (eqb row.starts 0 && eqb row.ends 0)) in (
-      ap (λ b. cond b (packet_bytes cs (packet_of cs row)) []) h,
+      ap (λ b. cond b (packet_bytes cs (after_gap gap (packet_of cs row))) []) h,
       ap (λ b. cond b 0 (head_len (length cs) + contents_len row.starts cs))
           none,
     )
 
 -- ---- a packet that is written by way of a buffer
-pub packet-written : (cs : List Channel) (p : Packet) → Fit (widths_under p.starts cs) p.contents
-    → events_bytes cs p.starts p.ends (picked p.starts p.starts 0 cs p.contents) ≡ packet_bytes cs p
-packet-written cs p f = ap (events_bytes cs p.starts p.ends) (picked-own p.starts 0 cs p.contents
-    (sym (fit-length (widths_under p.starts cs) p.contents f)))
+pub packet-written : (cs : List Channel) (p : Packet) → p.reset ≡ false → Fit (widths_under p.starts cs) p.contents
+    → tagged_bytes cs p.gap p.starts p.ends (picked p.starts p.starts 0 cs p.contents) ≡ packet_bytes cs p
+packet-written cs p row f =
+    ap (tagged_bytes cs p.gap p.starts p.ends) (picked-own p.starts 0 cs p.contents (sym (fit-length (widths_under p.starts cs) p.contents f)))
+    ∙ sym (cond-false p.reset (2 ∷ gap_bytes p.gap) (tagged_bytes cs p.gap p.starts p.ends p.contents) row)
+
+pub reset-written : (cs : List Channel) (p : Packet) → p.reset ≡ true → packet_bytes cs (reset_packet p.gap) ≡ packet_bytes cs p
+reset-written cs p h = sym (cond-true p.reset (2 ∷ gap_bytes p.gap) (tagged_bytes cs p.gap p.starts p.ends p.contents) h)
 
 -- one packet more
 pub packet-pushed : (cs : List Channel) (ps : List Packet) (i len : ℕ) (p : Packet) (start before after old new : List ℕ) → i < length ps
-    → p ≡ get_or ps i p → Fit (widths_under p.starts cs) p.contents
-    → new ≡ events_bytes cs p.starts p.ends (picked p.starts p.starts 0 cs p.contents) ++ old → len
-    ≡ length (events_bytes cs p.starts p.ends (picked p.starts p.starts 0 cs p.contents))
+    → p ≡ get_or ps i p → new ≡ packet_bytes cs p ++ old → len ≡ length (packet_bytes cs p)
     → before ≡ start ++ flat_map (packet_bytes cs) (take i ps) → after ≡ before ++ take len new → after ≡ start
     ++ flat_map (packet_bytes cs) (take (i + 1) ps)
-packet-pushed cs ps i len p start before after old new l e f n k b a =
-    let front : take len new ≡ packet_bytes cs p = ap (take len) n ∙ take_at
-    (events_bytes cs p.starts p.ends (picked p.starts p.starts 0 cs p.contents)) old len (sym k) ∙ packet-written cs p f in
+packet-pushed cs ps i len p start before after old new l e n k b a =
+    let front : take len new ≡ packet_bytes cs p = ap (take len) n ∙ take_at (packet_bytes cs p) old len (sym k) in
     let more : flat_map (packet_bytes cs) (take (i + 1) ps) ≡ flat_map (packet_bytes cs) (take i ps) ++ packet_bytes cs p =
     ap (flat_map (packet_bytes cs)) (take-more_read ps i p l e) ∙ flat_map-append (packet_bytes cs) (take i ps) (p ∷ [])
     ∙ ap (λ bs. flat_map (packet_bytes cs) (take i ps) ++ bs) (append-nil (packet_bytes cs p)) in

@@ -8,8 +8,10 @@ use Rattle.std.proofs.lemmas.Option.{same_Some, none-some}
 use Rattle.vec_clock.specs.trace_model.declared.channel.Channel.{Channel}
 use Rattle.vec_clock.specs.trace_model.declared.packet.Packet.{Packet}
 use Rattle.vec_clock.specs.trace_model.Channel.{IsTable}
+use Rattle.vec_clock.specs.trace_model.Epoch.{since_reset}
 use Rattle.vec_clock.specs.trace_model.Packet.{IsPacket}
-use Rattle.vec_clock.specs.trace_model.Trace.{Alternates, InFlight}
+use Rattle.vec_clock.specs.trace_model.Trace.{AlternateThroughout, InFlight}
+use Rattle.vec_clock.proofs.trace_model_lemmas.EpochLemmas.{in_flight-none, throughout-nil}
 use Rattle.trace_code.specs.declared.salvaging.Whole.{Whole}
 use Rattle.trace_code.specs.Encoding.{header_bytes, packet_bytes, end_mark}
 use Rattle.trace_code.specs.PacketReading.{numbers_at, packet_at, AreAll}
@@ -17,7 +19,7 @@ use Rattle.trace_code.specs.Salvage.{IsFront}
 use Rattle.trace_code.specs.Skipping.{Follows}
 use Rattle.trace_code.proofs.Readings.{all-longest}
 use Rattle.trace_code.proofs.Spelled.{packets-few, parts-push}
-use Rattle.trace_code.proofs.PacketLaws.{packet_again}
+use Rattle.trace_code.proofs.PacketLaws.{packet_again, packet_some}
 
 -- ---- one packet
 
@@ -43,16 +45,26 @@ pub record Skipped (cs : List Channel) (bytes : List ℕ) (count mask : ℕ) (re
   pub packets : List Packet
   pub counted : length packets ≡ count
   pub each : All (IsPacket cs) packets
-  pub alternate : Alternates packets
-  pub flying : InFlight packets mask
+  pub alternate : AlternateThroughout packets
+  pub flying : InFlight (since_reset packets) mask
   pub parts : bytes ≡ flat_map (packet_bytes cs) packets ++ rest
+
+pub skipped-none : (cs : List Channel) (bytes : List ℕ) → Skipped cs bytes 0 0 bytes
+skipped-none cs bytes = record {
+  packets = [];
+  counted = refl;
+  each = λ k d below. absurd (omega arith);
+  alternate = throughout-nil;
+  flying = in_flight-none;
+  parts = refl;
+}
 
 pub skipped-few : (cs : List Channel) (bytes : List ℕ) (count flying : ℕ) (rest : List ℕ) → Skipped cs bytes count flying rest
     → count ≤ length bytes
 skipped-few cs bytes count flying rest s = omega (
   arith,
   s.counted,
-  packets-few (packet_bytes cs) (λ p. omega arith) s.packets,
+  packets-few (packet_bytes cs) (λ p. omega (arith, packet_some cs p)) s.packets,
   ap length s.parts,
   length-append (flat_map (packet_bytes cs) s.packets) rest,
 )
@@ -74,11 +86,11 @@ skipped-on cs bytes count flying after rest others s f =
 -- with a packet there are fewer bytes
 pub skipped-shorter : (cs : List Channel) (bytes : List ℕ) (flying after : ℕ) (rest : List ℕ) → Follows cs bytes flying after rest
     → length rest + 1 ≤ length bytes
-skipped-shorter cs bytes flying after rest f = omega (arith, ap length f.parts, length-append (packet_bytes cs f.packet) rest)
+skipped-shorter cs bytes flying after rest f = omega (arith, ap length f.parts, length-append (packet_bytes cs f.packet) rest, packet_some cs f.packet)
 
 -- where none follows, these are all
 pub skipped-all : (cs : List Channel) (bytes : List ℕ) (count flying : ℕ) (rest : List ℕ) → Skipped cs bytes count flying rest
-    → ((ps : List Packet) (p : Packet) (after : List ℕ) → InFlight ps flying → Alternates (ps ++ p ∷ []) → IsPacket cs p
+    → ((ps : List Packet) (p : Packet) (after : List ℕ) → InFlight (since_reset ps) flying → AlternateThroughout (ps ++ p ∷ []) → IsPacket cs p
     → rest ≢ packet_bytes cs p ++ after)
     → (packets : List Packet) × (length packets ≡ count) × AreAll cs bytes packets rest
 skipped-all cs bytes count flying rest s none = (
@@ -105,7 +117,7 @@ front-whole cs bytes body rest ps whole table is all len count =
     record {
       salvaged = (rest, all-longest cs bytes body rest ps table is all);
       packets = sym count;
-      few = omega (arith, count, packets-few (packet_bytes cs) (λ p. omega arith) ps, long, length-append header packets);
+      few = omega (arith, count, packets-few (packet_bytes cs) (λ p. omega (arith, packet_some cs p)) ps, long, length-append header packets);
       within = omega (arith, len);
       encoded = ap (λ (bs : List ℕ). take whole.len bs ++ end_mark whole.packets) parts
           ∙ ap (λ (bs : List ℕ). bs ++ end_mark whole.packets) (take_at (header ++ packets) rest whole.len long)

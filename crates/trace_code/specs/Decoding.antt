@@ -6,7 +6,7 @@ use Rattle.vec_clock.specs.trace_model.declared.packet.Packet.{Packet}
 use Rattle.vec_clock.specs.trace_model.declared.trace.Trace.{Trace}
 use Rattle.vec_clock.specs.trace_model.Channel.{IsTable}
 use Rattle.vec_clock.specs.trace_model.Packet.{IsPacket}
-use Rattle.vec_clock.specs.trace_model.Trace.{Alternates}
+use Rattle.vec_clock.specs.trace_model.Trace.{AlternateThroughout}
 use Rattle.trace_code.specs.declared.error.CodeError.{CodeError}
 use Rattle.trace_code.specs.declared.error.CodeError.TheVariants.{BadTrace, Memory}
 use Rattle.trace_code.specs.Encoding.{header_bytes, packet_bytes, Encodes, HasEncoding, encode}
@@ -15,7 +15,7 @@ use Rattle.trace_code.specs.Encoding.{header_bytes, packet_bytes, Encodes, HasEn
 pub record Splits (bytes : List ℕ) (channels : List Channel) (packets : List Packet) (rest : List ℕ) : Type 0 where
   pub table : IsTable channels
   pub each : All (IsPacket channels) packets
-  pub alternate : Alternates packets
+  pub alternate : AlternateThroughout packets
   pub parts : bytes ≡ header_bytes channels ++ (flat_map (packet_bytes channels) packets ++ rest)
 
 -- there is no longer list of such packets

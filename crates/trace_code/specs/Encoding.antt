@@ -1,8 +1,9 @@
--- *Encoding*: the bytes of a trace, version 1, as a concatenation (this project's profile). All numbers are big-endian.
+-- *Encoding*: the bytes of a trace, version 2, as a concatenation (this project's profile). All numbers are big-endian.
 --
---   VIDITRC1 | channel count | channels | packets | 00, packet count (4 bytes)
+--   VIDITRC2 | channel count | channels | packets | 00, packet count (4 bytes)
 --   a channel: direction (0 inward, 1 outward) | name length | name | port count | a width a port
---   a packet: 01 | start mask | end mask | contents of the starting channels
+--   a packet with events: 01 | gap (2 bytes) | start mask | end mask | contents of the starting channels
+--   a reset: 02 | gap (2 bytes)
 use Rattle.std.specs.Prelude.{◌≡◌, ℕ, ◌<◌, ◌^◌, List, [], ◌∷◌, ◌++◌, length, codes, if◌then◌else◌}
 use Rattle.std.specs.List.{flat_map, zip}
 use Rattle.std.specs.Int.{bytes_high_first, bytes_low_first}
@@ -15,11 +16,11 @@ use Rattle.vec_clock.specs.trace_model.declared.trace.Trace.{Trace}
 use Rattle.vec_clock.specs.trace_model.Channel.{byte_count, IsTable}
 use Rattle.vec_clock.specs.trace_model.Length.{mask_len}
 use Rattle.vec_clock.specs.trace_model.Packet.{widths_under}
-use Rattle.vec_clock.specs.trace_model.Recording.{has_event, packet_of}
+use Rattle.vec_clock.specs.trace_model.Recording.{after_gap, has_event, packet_of}
 use Rattle.vec_clock.specs.trace_model.Trace.{IsWellFormed}
 
 abbrev pub magic : List ℕ
-magic = codes "VIDITRC1"
+magic = codes "VIDITRC2"
 
 abbrev pub direction_byte : Dir → ℕ
 direction_byte Inward = 0
@@ -43,13 +44,21 @@ mask_bytes n mask = bytes_low_first 0 (mask_len n) mask
 abbrev pub number_bytes : List ℕ → List ℕ → List ℕ
 number_bytes widths numbers = flat_map (λ (x : ℕ × ℕ). bytes_high_first (byte_count x.0) x.1) (zip widths numbers)
 
-abbrev pub packet_bytes : List Channel → Packet → List ℕ
-packet_bytes channels p = 1 ∷ (mask_bytes (length channels) p.starts
-    ++ (mask_bytes (length channels) p.ends ++ number_bytes (widths_under p.starts channels) p.contents))
+abbrev pub gap_bytes : ℕ → List ℕ
+gap_bytes gap = bytes_high_first 2 gap
 
--- the bytes of the packet of a row, of which there are none where it has no event
-abbrev pub row_bytes : List Channel → Row → List ℕ
-row_bytes channels row = if has_event row then packet_bytes channels (packet_of channels row) else []
+-- the masks of the starts and of the ends, and the contents of the starting channels
+abbrev pub events_bytes : List Channel → ℕ → ℕ → List ℕ → List ℕ
+events_bytes channels starts ends contents = mask_bytes (length channels) starts
+    ++ (mask_bytes (length channels) ends ++ number_bytes (widths_under starts channels) contents)
+
+abbrev pub packet_bytes : List Channel → Packet → List ℕ
+packet_bytes channels p = if p.reset then 2 ∷ gap_bytes p.gap
+    else 1 ∷ (gap_bytes p.gap ++ events_bytes channels p.starts p.ends p.contents)
+
+-- the bytes of the packet of a row behind this gap, of which there are none where it has no event
+abbrev pub row_bytes : List Channel → ℕ → Row → List ℕ
+row_bytes channels gap row = if has_event row then packet_bytes channels (after_gap gap (packet_of channels row)) else []
 
 abbrev pub end_mark : ℕ → List ℕ
 end_mark packets = 0 ∷ bytes_high_first 4 packets

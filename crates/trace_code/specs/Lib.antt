@@ -6,6 +6,7 @@ pub mod PacketReading
 pub mod Skipping
 pub mod Writing
 pub mod Tallied
+pub mod Counted
 pub mod Heads
 pub mod Standing
 pub mod Stands

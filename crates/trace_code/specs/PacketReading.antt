@@ -1,12 +1,13 @@
 -- Reading the packets of a trace, in the manner of `Reading`.
-use Rattle.std.specs.Prelude.{◌≡◌, ◌≢◌, ℕ, ◌+◌, ◌*◌, ◌^◌, ◌==◌, ◌&&◌, List, [], ◌∷◌, ◌++◌, length, take, drop, Option, Some, None, nat_lt}
+use Rattle.std.specs.Prelude.{◌≡◌, ◌≢◌, ℕ, ◌+◌, ◌*◌, ◌^◌, ◌==◌, Bool, true, false, List, [], ◌∷◌, ◌++◌, length, take, drop, Option, Some, None, nat_lt}
 use Rattle.std.specs.Prelude.{if◌then◌else◌, All}
 use Rattle.std.specs.List.{flat_map, fold}
 use Rattle.vec_clock.specs.trace_model.declared.channel.Channel.{Channel}
 use Rattle.vec_clock.specs.trace_model.declared.packet.Packet.{Packet}
 use Rattle.vec_clock.specs.trace_model.Channel.{byte_count}
-use Rattle.vec_clock.specs.trace_model.Packet.{IsPacket, plain_packet, widths_under}
-use Rattle.vec_clock.specs.trace_model.Trace.{Alternates}
+use Rattle.vec_clock.specs.trace_model.Packet.{is_bare, IsPacket, widths_under}
+use Rattle.vec_clock.specs.trace_model.Recording.{reset_packet}
+use Rattle.vec_clock.specs.trace_model.Trace.{AlternateThroughout}
 use Rattle.vec_clock.specs.trace_model.Length.{mask_len}
 use Rattle.trace_code.specs.Encoding.{packet_bytes}
 use Rattle.trace_code.specs.Reading.{◌>>=◌}
@@ -41,28 +42,41 @@ numbers_at (width ∷ widths) bytes = do
   others ← numbers_at widths first.1
   Some (first.0 ∷ others.0, others.1)
 
--- the byte of a packet
-unfoldable pub tag_at : List ℕ → Option (List ℕ)
+-- the byte of a packet: whether it is a reset
+unfoldable pub tag_at : List ℕ → Option (Bool × List ℕ)
 tag_at [] = None
-tag_at (b ∷ rest) = if b == 1 then Some rest else None
+tag_at (b ∷ rest) = if b == 1 then Some (false, rest) else (if b == 2 then Some (true, rest) else None)
+
+-- the gap
+unfoldable pub gap_at : List ℕ → Option (ℕ × List ℕ)
+gap_at [] = None
+gap_at (high ∷ []) = None
+gap_at (high ∷ low ∷ rest) = Some (256 * high + low, rest)
 
 -- the starts and the ends, of which there are some
 unfoldable pub masks_at : ℕ → List ℕ → Option (ℕ × ℕ × List ℕ)
 masks_at n bytes = do
   starts ← mask_at n bytes
   ends ← mask_at n starts.1
-  if starts.0 == 0 && ends.0 == 0 then None else Some (starts.0, ends.0, ends.1)
+  if is_bare starts.0 ends.0 then None else Some (starts.0, ends.0, ends.1)
+
+-- what a packet with events has behind its gap
+unfoldable pub events_at : List Channel → ℕ → List ℕ → Option (Packet × List ℕ)
+events_at channels gap bytes = do
+  masks ← masks_at (length channels) bytes
+  contents ← numbers_at (widths_under masks.0 channels) masks.2
+  Some (record { gap = gap; reset = false; starts = masks.0; ends = masks.1; contents = contents.0 }, contents.1)
 
 unfoldable pub packet_at : List Channel → List ℕ → Option (Packet × List ℕ)
 packet_at channels bytes = do
-  rest ← tag_at bytes
-  masks ← masks_at (length channels) rest
-  contents ← numbers_at (widths_under masks.0 channels) masks.2
-  Some (plain_packet masks.0 masks.1 contents.0, contents.1)
+  tag ← tag_at bytes
+  gap ← gap_at tag.1
+  if tag.0 then Some (reset_packet gap.0, gap.1) else events_at channels gap.0 gap.1
 
 -- the bytes are these packets, each lawful after those before it, and a rest that begins with none that is lawful after them
 pub record AreAll (channels : List Channel) (bytes : List ℕ) (packets : List Packet) (rest : List ℕ) : Type 0 where
   pub each : All (IsPacket channels) packets
-  pub alternate : Alternates packets
+  pub alternate : AlternateThroughout packets
   pub parts : bytes ≡ flat_map (packet_bytes channels) packets ++ rest
-  pub last : (p : Packet) (after : List ℕ) → IsPacket channels p → Alternates (packets ++ p ∷ []) → rest ≢ packet_bytes channels p ++ after
+  pub last : (p : Packet) (after : List ℕ) → IsPacket channels p → AlternateThroughout (packets ++ p ∷ [])
+      → rest ≢ packet_bytes channels p ++ after

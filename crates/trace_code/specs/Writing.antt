@@ -2,8 +2,7 @@
 use Rattle.std.specs.Prelude.{ℕ, ◌+◌, List, [], ◌∷◌, ◌++◌, length, take, drop, if◌then◌else◌}
 use Rattle.vec_clock.specs.vidi_bits.Number.{has}
 use Rattle.vec_clock.specs.trace_model.declared.channel.Channel.{Channel}
-use Rattle.vec_clock.specs.trace_model.Packet.{widths_under}
-use Rattle.trace_code.specs.Encoding.{mask_bytes, number_bytes}
+use Rattle.trace_code.specs.Encoding.{gap_bytes, events_bytes}
 
 -- the bytes with a piece written over them from a place on; the others stay
 abbrev pub overwritten : List ℕ → ℕ → List ℕ → List ℕ
@@ -17,7 +16,6 @@ picked listed starts c (channel ∷ channels) numbers = if has listed c
     ++ picked listed starts (c + 1) channels (drop (length channel.widths) numbers)
     else picked listed starts (c + 1) channels numbers
 
--- a packet of these starts and ends
-abbrev pub events_bytes : List Channel → ℕ → ℕ → List ℕ → List ℕ
-events_bytes channels starts ends contents = 1 ∷ (mask_bytes (length channels) starts
-    ++ (mask_bytes (length channels) ends ++ number_bytes (widths_under starts channels) contents))
+-- a packet of these starts and ends behind a gap
+abbrev pub tagged_bytes : List Channel → ℕ → ℕ → ℕ → List ℕ → List ℕ
+tagged_bytes channels gap starts ends contents = 1 ∷ (gap_bytes gap ++ events_bytes channels starts ends contents)

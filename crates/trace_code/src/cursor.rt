@@ -1,10 +1,10 @@
 //! Cursors over the events of a trace.
 
-ghost use Rattle.std.specs.Prelude.{◌≡◌, ◌↔◌, IsTrue, IfOk, ℕ, ◌+◌, ◌<◌, ◌≤◌, slice_get, slice_index, length};
+ghost use Rattle.std.specs.Prelude.{◌≡◌, ◌↔◌, IsTrue, IfOk, ℕ, ◌+◌, ◌<◌, ◌≤◌, slice_get, slice_index, length, take};
 ghost use Rattle.vec_clock.specs.trace_model.declared.packet.Packet.{Packet};
 ghost use Rattle.vec_clock.specs.trace_model.declared.trace.Trace.{Trace};
-ghost use Rattle.vec_clock.specs.trace_model.Clock.{clock as clock_of};
 ghost use Rattle.vec_clock.specs.trace_model.Counting.{IsNth};
+ghost use Rattle.vec_clock.specs.trace_model.Epoch.{resets, since_reset};
 ghost use Rattle.vec_clock.specs.trace_model.Packet.{content_of, count, does, widths_of};
 ghost use Rattle.trace_code.specs.Encoding.{Encodes, HasEncoding};
 ghost use Rattle.trace_code.specs.Standing.{bytes_from};
@@ -45,7 +45,7 @@ pub struct Cursor<'a> {
     widths: Bytes,
     /// The next event's clock.
     clock: Tally,
-    /// How many packets behind the next event's are known to have its masks.
+    /// How many packets behind the next event's are known to have its head.
     same: u32,
     /// How many bytes of that packet's contents stand before its own channel's.
     below: usize,
@@ -53,7 +53,7 @@ pub struct Cursor<'a> {
 
 impl<'a> Cursor<'a> {
     /// A cursor at the first event of this kind on this channel, or at the end where there is none. The bytes are the encoding
-    /// of a trace of version 1 that has this channel.
+    /// of a trace that has this channel.
     pub fn new(
         alloc: Global,
         bytes: &'a [u8],
@@ -110,13 +110,23 @@ impl<'a> Cursor<'a> {
         is_end(self.rest, &self.head, &self.clock)
     }
 
-    /// The number of a channel in the next event's clock (*Clock*): the completions of that channel in the packets before it.
+    /// The number of a channel in the next event's clock (*Clock*): the completions of that channel in the packets of its epoch before
+    /// it.
     pub fn need(&self, channel: usize) -> u32
         requires { (t : Trace) × (j : ℕ) × Stands self.now t j × (channel < length t.channels) }
         ensures { (t : Trace) (j p : ℕ) (packet : Packet) → Stands self.now t j → channel < length t.channels
-            → IsNth (does self.now.kind self.now.channel) t.packets j p packet → result ≡ clock_of t.packets p channel }
+            → IsNth (does self.now.kind self.now.channel) t.packets j p packet → result ≡ count Kind.End channel (since_reset (take p t.packets)) }
     {
         self.clock.get(channel)
+    }
+
+    /// The epoch of the next event: how many resets came before it. It isn't at the end.
+    pub fn epoch(&self) -> u32
+        requires { (t : Trace) × (j : ℕ) × Stands self.now t j × (j < count self.now.kind self.now.channel t.packets) }
+        ensures { (t : Trace) (j p : ℕ) (packet : Packet) → Stands self.now t j
+            → IsNth (does self.now.kind self.now.channel) t.packets j p packet → result ≡ resets (take p t.packets) }
+    {
+        self.clock.epoch()
     }
 
     /// Whether the next event of another cursor over this trace is in the packet of this one's.

@@ -7,7 +7,8 @@ ghost use Rattle.vec_clock.specs.trace_model.declared.packet.TheConstants.{MOST_
 ghost use Rattle.vec_clock.specs.trace_model.declared.trace.Trace.{Trace};
 ghost use Rattle.vec_clock.specs.trace_model.Channel.{IsChannel};
 ghost use Rattle.vec_clock.specs.trace_model.Packet.{IsPacket};
-ghost use Rattle.vec_clock.specs.trace_model.Trace.{Alternates, InFlight};
+ghost use Rattle.vec_clock.specs.trace_model.Epoch.{since_reset};
+ghost use Rattle.vec_clock.specs.trace_model.Trace.{AlternateThroughout, InFlight};
 ghost use Rattle.trace_code.specs.Encoding.{Encodes, packet_bytes, end_mark};
 ghost use Rattle.trace_code.specs.Decoding.{Decodes};
 ghost use Rattle.trace_code.specs.PacketReading.{AreAll};
@@ -17,11 +18,11 @@ use crate::error::CodeError;
 use crate::header::read_header;
 use crate::packets::read_packet;
 use std::alloc::Global;
-use vec_clock::trace_model::{Channel, Packet, Packets, Trace, in_flight_after};
+use vec_clock::trace_model::{Channel, Packet, Packets, Trace, in_flight_behind};
 use vec_clock::vidi_bits::{Items, Memory};
 
 /// The bytes of the longest trace file that is read (this project's profile).
-pub const TRACE_LIMIT: u64 = 67_108_864;
+pub const TRACE_LIMIT: u64 = 134_217_728;
 
 /// The packet at the front of the bytes, the channels in flight after it, and the bytes after it. None
 /// where no packet stands there that is lawful after packets that leave `flying` in flight.
@@ -34,13 +35,18 @@ fn next_packet<'a>(
     requires few { length channels.now ≤ MOST_CHANNELS }
     requires each { All IsChannel channels.now }
     ensures found { IfOk result (λ o. IfSome o (λ x. IsPacket channels.now x.0 × (bytes.now ≡ packet_bytes channels.now x.0 ++ x.2.now))) }
-    ensures follows { IfOk result (λ o. IfSome o (λ x. (ps : List Packet) → Alternates ps → InFlight ps flying → Alternates (ps ++ x.0 ∷ [])
-        × InFlight (ps ++ x.0 ∷ []) x.1)) }
-    ensures none { IfOk result (λ o. IfNone o ((ps : List Packet) (p : Packet) (rest : List ℕ) → InFlight ps flying
-        → Alternates (ps ++ p ∷ []) → IsPacket channels.now p → bytes.now ≢ packet_bytes channels.now p ++ rest)) }
+    ensures follows { IfOk result (λ o. IfSome o (λ x. (ps : List Packet) → AlternateThroughout ps → InFlight (since_reset ps) flying
+        → AlternateThroughout (ps ++ x.0 ∷ []) × InFlight (since_reset (ps ++ x.0 ∷ [])) x.1)) }
+    ensures none { IfOk result (λ o. IfNone o ((ps : List Packet) (p : Packet) (rest : List ℕ) → InFlight (since_reset ps) flying
+        → AlternateThroughout (ps ++ p ∷ []) → IsPacket channels.now p → bytes.now ≢ packet_bytes channels.now p ++ rest)) }
 {
     match read_packet(alloc, channels, bytes) {
-        Ok((packet, rest)) => match in_flight_after(flying, packet.starts, packet.ends) {
+        Ok((packet, rest)) => match in_flight_behind(
+            flying,
+            packet.reset,
+            packet.starts,
+            packet.ends,
+        ) {
             Some(after) => Ok(Some((packet, after, rest))),
             None => Ok(None),
         },

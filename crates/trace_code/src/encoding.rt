@@ -1,6 +1,6 @@
 //! Writing a whole trace.
 
-ghost use Rattle.std.specs.Prelude.{◌≡◌, ◌≤◌, ◌++◌, length, All, OnOk, IfOk};
+ghost use Rattle.std.specs.Prelude.{◌≡◌, ◌≤◌, ◌++◌, length, drop, All, OnOk, IfOk};
 ghost use Rattle.std.specs.List.{flat_map};
 ghost use Rattle.vec_clock.specs.trace_model.Channel.{IsChannel, IsTable};
 ghost use Rattle.vec_clock.specs.trace_model.Length.{longest_packet};
@@ -8,7 +8,7 @@ ghost use Rattle.vec_clock.specs.trace_model.Packet.{IsPacket};
 ghost use Rattle.trace_code.specs.Encoding.{direction_byte, channel_bytes, header_bytes, packet_bytes, end_mark, encode, HasEncoding};
 
 use crate::header::MAGIC;
-use crate::writing::write_events;
+use crate::writing::{Events, write_events, write_reset};
 use std::alloc::Global;
 use vec_clock::trace_model::{Channel, Channels, Dir, Packet, Trace, longest_packet};
 use vec_clock::vidi_bits::{Bytes, Items, Memory};
@@ -58,6 +58,27 @@ pub fn header_bytes(alloc: Global, channels: &Channels) -> Result<Bytes, Memory>
     Ok(Items::from_vec(out))
 }
 
+/// Writes a packet at the front of the buffer, which has room for it, and gives its length.
+fn write_one(packet: &Packet, channels: &[Channel], buf: &mut [u8]) -> usize
+    requires few { length channels.now ≤ 128 }
+    requires each { All IsChannel channels.now }
+    requires packet { IsPacket channels.now packet.now }
+    requires room { longest_packet channels.now ≤ length buf.old }
+    ensures bytes { buf.new ≡ packet_bytes channels.now packet.now ++ drop result buf.old }
+    ensures place { result ≡ length (packet_bytes channels.now packet.now) }
+{
+    if packet.reset {
+        return write_reset(packet.gap, buf);
+    }
+    let contents = packet.contents.as_slice();
+    let events = Events {
+        gap: packet.gap,
+        starts: packet.starts,
+        ends: packet.ends,
+    };
+    write_events(buf, channels, packet.starts, events, contents)
+}
+
 /// Adds the bytes of packets, one after the other, each by way of a buffer that has room for it.
 fn push_packets(
     out: &mut Vec<u8>,
@@ -72,15 +93,7 @@ fn push_packets(
     ensures { OnOk result (out.new.items ≡ out.old.items ++ flat_map (packet_bytes channels.now) packets.now) }
 {
     for packet in packets {
-        let contents = packet.contents.as_slice();
-        let len = write_events(
-            buf,
-            channels,
-            packet.starts,
-            packet.starts,
-            packet.ends,
-            contents,
-        );
+        let len = write_one(packet, channels, buf);
         out.extend_from_slice(&buf[..len])?;
     }
     Ok(())

@@ -16,8 +16,8 @@ use vec_clock::trace_model::{
 };
 use vec_clock::vidi_bits::{Bytes, Items, Name, copied};
 
-/// The first bytes of a trace of version 1.
-pub(crate) const MAGIC: [u8; 8] = *b"VIDITRC1";
+/// The first bytes of a trace of version 2.
+pub(crate) const MAGIC: [u8; 8] = *b"VIDITRC2";
 
 /// The most bytes of a name.
 const MAX_NAME: usize = 64;

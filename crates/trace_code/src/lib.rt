@@ -1,4 +1,4 @@
-//! The bytes of a trace, version 1: `Encoding` in `specs/` spells a trace, `encode` writes it, whole or by
+//! The bytes of a trace, version 2: `Encoding` in `specs/` spells a trace, `encode` writes it, whole or by
 //! its parts, `decode` reads it back, and `salvage` reads what is whole of a trace that was cut off. A `Cursor` walks over the
 //! events of one channel and kind where they stand in the bytes: `Stands` in `specs/` says where it is.
 #![tactic(auto)]
@@ -28,4 +28,4 @@ pub use packets::{read_contents, read_masks};
 pub use salvaging::{Whole, salvage, salvage_front};
 pub use vec_clock;
 pub use vec_clock::{trace_model, vidi_bits};
-pub use writing::write_packet;
+pub use writing::{write_packet, write_reset};

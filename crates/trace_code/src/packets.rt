@@ -5,9 +5,10 @@ ghost use Rattle.vec_clock.specs.trace_model.declared.packet.Packet.{Packet};
 ghost use Rattle.vec_clock.specs.trace_model.declared.packet.TheConstants.{MOST_CHANNELS};
 ghost use Rattle.vec_clock.specs.trace_model.Packet.{widths_under, IsPacket};
 ghost use Rattle.vec_clock.specs.trace_model.Channel.{IsChannel};
+ghost use Rattle.vec_clock.specs.trace_model.Recording.{reset_packet};
 ghost use Rattle.trace_code.specs.Encoding.{packet_bytes};
 ghost use Rattle.trace_code.specs.Reading.{Gives, with_front};
-ghost use Rattle.trace_code.specs.PacketReading.{numbers_at, tag_at, masks_at, packet_at};
+ghost use Rattle.trace_code.specs.PacketReading.{numbers_at, tag_at, gap_at, masks_at, events_at, packet_at};
 
 use crate::error::{CodeError, FAULT};
 use crate::number::{read_mask, read_number};
@@ -87,13 +88,25 @@ pub fn read_contents<'a>(
     Ok((Items::from_vec(numbers), rest))
 }
 
-/// The bytes after the one with which a packet begins.
+/// Whether a packet is a reset, by the byte with which it begins, and the bytes after that.
 #[tactic(auto, unfolding(crate::specs::PacketReading::tag_at))]
-pub(crate) fn read_tag(bytes: &[u8]) -> Option<&[u8]>
-    ensures { option_map (λ rest. rest.now) result ≡ tag_at bytes.now }
+pub(crate) fn read_tag(bytes: &[u8]) -> Option<(bool, &[u8])>
+    ensures { option_map (λ x. (x.0, x.1.now)) result ≡ tag_at bytes.now }
 {
     match bytes {
-        [1, rest @ ..] => Some(rest),
+        [1, rest @ ..] => Some((false, rest)),
+        [2, rest @ ..] => Some((true, rest)),
+        _ => None,
+    }
+}
+
+/// A gap, and the bytes after it.
+#[tactic(auto, unfolding(crate::specs::PacketReading::gap_at))]
+pub(crate) fn read_gap(bytes: &[u8]) -> Option<(u32, &[u8])>
+    ensures { option_map (λ x. (x.0, x.1.now)) result ≡ gap_at bytes.now }
+{
+    match bytes {
+        [high, low, rest @ ..] => Some((256 * u32::from(*high) + u32::from(*low), rest)),
         _ => None,
     }
 }
@@ -113,6 +126,43 @@ pub fn read_masks(channels: usize, bytes: &[u8]) -> Option<(u128, u128, &[u8])>
     Some((starts, ends, rest))
 }
 
+/// The packet with events whose masks stand at the front of the bytes, and the bytes after it.
+#[tactic(auto, unfolding(crate::specs::PacketReading::events_at))]
+fn read_events<'a>(
+    alloc: Global,
+    channels: &[Channel],
+    gap: u32,
+    bytes: &'a [u8],
+) -> Result<(Packet, &'a [u8]), CodeError>
+    requires few { length channels.now ≤ MOST_CHANNELS }
+    requires each { All IsChannel channels.now }
+    ensures { Gives (λ x. (x.0, x.1.now)) result (events_at channels.now gap bytes.now) }
+{
+    let (starts, ends, rest) = read_masks(channels.len(), bytes).ok_or(FAULT)?;
+    let (contents, rest) = read_contents(alloc, channels, starts, rest)?;
+    let packet = Packet {
+        gap,
+        reset: false,
+        starts,
+        ends,
+        contents,
+    };
+    Ok((packet, rest))
+}
+
+/// A reset behind a gap.
+fn reset_packet(alloc: Global, gap: u32) -> Packet
+    ensures { result ≡ reset_packet gap }
+{
+    Packet {
+        gap,
+        reset: true,
+        starts: 0,
+        ends: 0,
+        contents: Items::new(alloc),
+    }
+}
+
 /// The packet at the front of the bytes, field by field, and the bytes after it.
 #[tactic(auto, unfolding(crate::specs::PacketReading::packet_at))]
 fn read_packet_fields<'a>(
@@ -124,17 +174,12 @@ fn read_packet_fields<'a>(
     requires each { All IsChannel channels.now }
     ensures { Gives (λ x. (x.0, x.1.now)) result (packet_at channels.now bytes.now) }
 {
-    let rest = read_tag(bytes).ok_or(FAULT)?;
-    let (starts, ends, rest) = read_masks(channels.len(), rest).ok_or(FAULT)?;
-    let (contents, rest) = read_contents(alloc, channels, starts, rest)?;
-    let packet = Packet {
-        gap: 0,
-        reset: false,
-        starts,
-        ends,
-        contents,
-    };
-    Ok((packet, rest))
+    let (reset, rest) = read_tag(bytes).ok_or(FAULT)?;
+    let (gap, rest) = read_gap(rest).ok_or(FAULT)?;
+    if reset {
+        return Ok((reset_packet(alloc, gap), rest));
+    }
+    read_events(alloc, channels, gap, rest)
 }
 
 /// The packet at the front of the bytes, and the bytes after it. `BadTrace { at: 0 }` where no packet over

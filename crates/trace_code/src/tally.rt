@@ -1,6 +1,6 @@
 //! Counts that are taken together while the same channels complete.
 
-ghost use Rattle.std.specs.Prelude.{◌≡◌, ◌+◌, ◌-◌, ◌*◌, ◌<◌, ◌≤◌, ◌^◌, ℕ, true, IfOk, length, replicate, slice_index};
+ghost use Rattle.std.specs.Prelude.{◌≡◌, ◌+◌, ◌-◌, ◌*◌, ◌<◌, ◌≤◌, ◌^◌, ℕ, true, false, if◌then◌else◌, IfOk, length, replicate, slice_index};
 ghost use Rattle.std.specs.Int.{bit_at};
 ghost use Rattle.vec_clock.specs.vidi_bits.Number.{has};
 ghost use Rattle.trace_code.specs.Tallied.{tallied};
@@ -10,8 +10,8 @@ use vec_clock::Clock;
 use vec_clock::trace_model::names;
 use vec_clock::vidi_bits::Memory;
 
-/// How many transactions of each channel have completed. Packets that complete the same channels, one behind the other, are
-/// counted as one number. Only `new` takes memory.
+/// How many transactions of each channel have completed since the last reset, and how many resets there were. Packets that complete
+/// the same channels, one behind the other, are counted as one number. Only `new` takes memory.
 #[derive(Drop)]
 pub(crate) struct Tally {
     /// The completions before the last packets.
@@ -20,6 +20,8 @@ pub(crate) struct Tally {
     ends: u128,
     /// The number of these packets.
     times: u32,
+    /// The resets.
+    epoch: u32,
     ghost fits: { (c : ℕ) → c < length clock → slice_index clock c + times * bit_at ends c < 2 ^ 32 },
 }
 
@@ -28,13 +30,15 @@ impl Tally {
     pub(crate) fn new(alloc: Global, n: usize) -> Result<Tally, Memory>
         requires some { 1 ≤ n }
         requires few { n ≤ 128 }
-        ensures { IfOk result (λ tally. tallied tally.clock tally.ends tally.times ≡ replicate n 0) }
+        ensures clock { IfOk result (λ tally. tallied tally.clock tally.ends tally.times ≡ replicate n 0) }
+        ensures epoch { IfOk result (λ tally. tally.epoch ≡ 0) }
     {
         let clock = Clock::new(alloc, n)?;
         Ok(Tally {
             clock,
             ends: 0,
             times: 0,
+            epoch: 0,
         })
     }
 
@@ -47,6 +51,7 @@ impl Tally {
         ensures each { (c : ℕ) → c < length self.old.clock
             → slice_index (tallied self.new.clock self.new.ends self.new.times) c
             ≡ slice_index (tallied self.old.clock self.old.ends self.old.times) c + bit_at ends c }
+        ensures epoch { self.new.epoch ≡ self.old.epoch }
     {
         if ends == 0 {
             return;
@@ -62,12 +67,53 @@ impl Tally {
         ensures each { (c : ℕ) → c < length self.old.clock
             → slice_index self.new.clock c + self.new.times * bit_at ends c
             ≡ slice_index (tallied self.old.clock self.old.ends self.old.times) c }
+        ensures epoch { self.new.epoch ≡ self.old.epoch }
     {
         if ends != self.ends {
             self.clock.add_times(self.ends, self.times);
             self.ends = ends;
             self.times = 0;
         }
+    }
+
+    /// Counts a packet: a reset, or the completions of the channels that `ends` names.
+    pub(crate) fn pass(&mut self, reset: bool, ends: u128)
+        requires few { self.old.epoch < 2 ^ 32 - 1 }
+        requires below { ends < 2 ^ length self.old.clock }
+        requires small { (c : ℕ) → c < length self.old.clock → has ends c ≡ true
+            → slice_index (tallied self.old.clock self.old.ends self.old.times) c < 2 ^ 32 - 1 }
+        ensures len { length self.new.clock ≡ length self.old.clock }
+        ensures zeros { reset ≡ true → tallied self.new.clock self.new.ends self.new.times ≡ replicate (length self.old.clock) 0 }
+        ensures each { reset ≡ false → (c : ℕ) → c < length self.old.clock
+            → slice_index (tallied self.new.clock self.new.ends self.new.times) c
+            ≡ slice_index (tallied self.old.clock self.old.ends self.old.times) c + bit_at ends c }
+        ensures epoch { self.new.epoch ≡ self.old.epoch + (if reset then 1 else 0) }
+    {
+        if reset {
+            self.reset();
+        } else {
+            self.add(ends);
+        }
+    }
+
+    /// Counts one more reset, since which nothing has completed.
+    pub(crate) fn reset(&mut self)
+        requires { self.old.epoch < 2 ^ 32 - 1 }
+        ensures len { length self.new.clock ≡ length self.old.clock }
+        ensures zeros { tallied self.new.clock self.new.ends self.new.times ≡ replicate (length self.old.clock) 0 }
+        ensures epoch { self.new.epoch ≡ self.old.epoch + 1 }
+    {
+        self.clock.clear();
+        self.ends = 0;
+        self.times = 0;
+        self.epoch += 1;
+    }
+
+    /// How many resets were counted.
+    pub(crate) fn epoch(&self) -> u32
+        ensures { result ≡ self.now.epoch }
+    {
+        self.epoch
     }
 
     /// The number of channel `c`.

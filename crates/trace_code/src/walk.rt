@@ -7,9 +7,9 @@ ghost use Rattle.vec_clock.specs.trace_model.declared.trace.Trace.{Trace};
 ghost use Rattle.vec_clock.specs.trace_model.Channel.{byte_count, content_bytes, IsChannel};
 ghost use Rattle.vec_clock.specs.trace_model.Packet.{count, does};
 ghost use Rattle.trace_code.specs.PacketReading.{high_value};
-ghost use Rattle.trace_code.specs.Heads.{AreMasks};
+ghost use Rattle.trace_code.specs.Counted.{counted};
+ghost use Rattle.trace_code.specs.Heads.{IsHead};
 ghost use Rattle.trace_code.specs.Standing.{IsAt, StandsAt};
-ghost use Rattle.trace_code.specs.Tallied.{tallied};
 
 use crate::head::Head;
 use crate::number::{byte_count, high_first, numbers_len};
@@ -45,26 +45,26 @@ pub(crate) fn number_of(widths: &[u8], port: usize, bytes: &[u8]) -> u128
 
 /// Whether the end of the trace stands at the front of the bytes.
 pub(crate) fn is_end(rest: &[u8], head: &Head, tally: &Tally) -> bool
-    requires { (t : Trace) × (p : ℕ) × IsAt t p head.now.sizes.items rest.now (tallied tally.now.clock tally.now.ends tally.now.times) }
-    ensures { (t : Trace) (p : ℕ) → IsAt t p head.now.sizes.items rest.now (tallied tally.now.clock tally.now.ends tally.now.times)
+    requires { (t : Trace) × (p : ℕ) × IsAt t p head.now.sizes.items rest.now (counted tally.now) }
+    ensures { (t : Trace) (p : ℕ) → IsAt t p head.now.sizes.items rest.now (counted tally.now)
         → IsTrue result ↔ (length t.packets ≤ p) }
 {
     rest[0] == 0
 }
 
-/// The bytes behind the packet at their front, whose head this is and whose completions are counted. Its contents are passed over
+/// The bytes behind the packet at their front, whose head this is and which is counted. Its contents are passed over
 /// unread.
 pub(crate) fn skip<'a>(rest: &'a [u8], head: &Head, tally: &mut Tally) -> &'a [u8]
-    requires at { (t : Trace) × (p : ℕ) × IsAt t p head.now.sizes.items rest.now (tallied tally.old.clock tally.old.ends tally.old.times)
+    requires at { (t : Trace) × (p : ℕ) × IsAt t p head.now.sizes.items rest.now (counted tally.old)
         × (p < length t.packets) }
-    requires masks { AreMasks (length head.now.sizes.items) head.now.starts head.now.ends rest.now }
-    ensures at { (t : Trace) (p : ℕ) → IsAt t p head.now.sizes.items rest.now (tallied tally.old.clock tally.old.ends tally.old.times)
+    requires head { IsHead (length head.now.sizes.items) head.now.reset head.now.starts head.now.ends rest.now }
+    ensures at { (t : Trace) (p : ℕ) → IsAt t p head.now.sizes.items rest.now (counted tally.old)
         → p < length t.packets
-        → IsAt t (p + 1) head.now.sizes.items result.now (tallied tally.new.clock tally.new.ends tally.new.times) }
+        → IsAt t (p + 1) head.now.sizes.items result.now (counted tally.new) }
     ensures behind { result.now ≡ drop head.now.len rest.now }
     ensures shorter { length result.now < length rest.now }
 {
-    tally.add(head.ends);
+    tally.pass(head.reset, head.ends);
     let (_packet, after) = rest.split_at(head.len);
     after
 }
@@ -78,11 +78,11 @@ pub(crate) fn seek<'a>(
     kind: Kind,
     channel: usize,
 ) -> &'a [u8]
-    requires { (t : Trace) × (p : ℕ) × IsAt t p head.old.sizes.items rest.now (tallied tally.old.clock tally.old.ends tally.old.times) }
+    requires { (t : Trace) × (p : ℕ) × IsAt t p head.old.sizes.items rest.now (counted tally.old) }
     ensures stands { (t : Trace) (p : ℕ)
-        → IsAt t p head.old.sizes.items rest.now (tallied tally.old.clock tally.old.ends tally.old.times)
+        → IsAt t p head.old.sizes.items rest.now (counted tally.old)
         → StandsAt t kind channel (count kind channel (take p t.packets)) head.new.sizes.items result.now
-        (tallied tally.new.clock tally.new.ends tally.new.times) head.new.starts head.new.ends }
+        (counted tally.new) head.new.reset head.new.starts head.new.ends }
     ensures sizes { head.new.sizes.items ≡ head.old.sizes.items }
 {
     let mut here = rest;

@@ -1,15 +1,17 @@
 //! Writing one packet in place, without memory.
 
-ghost use Rattle.std.specs.Prelude.{◌≡◌, ℕ, true, ◌+◌, ◌*◌, ◌≤◌, ◌^◌, ◌<◌, [], ◌∷◌, ◌++◌, length, drop, All, sum_by, if◌then◌else◌};
+ghost use Rattle.std.specs.Prelude.{◌≡◌, ℕ, List, true, ◌+◌, ◌*◌, ◌≤◌, ◌^◌, ◌<◌, [], ◌∷◌, ◌++◌, length, drop, All, sum_by, if◌then◌else◌};
 ghost use Rattle.std.specs.Int.{bytes_high_first};
 ghost use Rattle.vec_clock.specs.vidi_bits.Number.{has};
+ghost use Rattle.vec_clock.specs.trace_model.declared.channel.Channel.{Channel as OneChannel};
+ghost use Rattle.vec_clock.specs.trace_model.declared.packet.TheConstants.{GAP_LIMIT, RESET_LEN};
 ghost use Rattle.vec_clock.specs.trace_model.Channel.{byte_count, IsChannel, IsTable};
 ghost use Rattle.vec_clock.specs.trace_model.Length.{head_len, longest_packet, packet_len};
 ghost use Rattle.vec_clock.specs.trace_model.Packet.{widths_under};
-ghost use Rattle.vec_clock.specs.trace_model.Recording.{has_event};
+ghost use Rattle.vec_clock.specs.trace_model.Recording.{has_event, reset_packet};
 ghost use Rattle.vec_clock.specs.trace_model.Row.{IsOver};
-ghost use Rattle.trace_code.specs.Encoding.{mask_bytes, number_bytes, row_bytes};
-ghost use Rattle.trace_code.specs.Writing.{overwritten, picked, events_bytes};
+ghost use Rattle.trace_code.specs.Encoding.{gap_bytes, mask_bytes, number_bytes, packet_bytes, row_bytes};
+ghost use Rattle.trace_code.specs.Writing.{overwritten, picked, tagged_bytes};
 
 use crate::number::byte_count;
 use vec_clock::trace_model::{Channel, Channels, Row, names};
@@ -110,29 +112,56 @@ fn write_contents(
     place
 }
 
-/// Writes the packet of these starts and ends at the front of the buffer, and gives its length. The
-/// contents are those of the listed channels, among which are those that start.
+/// The byte with which a packet begins, and its gap.
+fn tag_bytes(tag: u8, gap: u32) -> [u8; 3]
+    ensures { result ≡ tag ∷ gap_bytes gap }
+{
+    let [_, _, high, low] = gap.to_be_bytes();
+    [tag, high, low]
+}
+
+/// What a packet with events has before its contents.
+#[derive(Clone, Copy)]
+pub(crate) struct Events {
+    pub(crate) gap: u32,
+    pub(crate) starts: u128,
+    pub(crate) ends: u128,
+}
+
+/// Writes the packet of these events at the front of the buffer, and gives its length. The contents are those of the listed channels,
+/// among which are those that start.
 pub(crate) fn write_events(
     buf: &mut [u8],
     channels: &[Channel],
     listed: u128,
-    starts: u128,
-    ends: u128,
+    events: Events,
     contents: &[u128],
 ) -> usize
     requires few { length channels.now ≤ 128 }
     requires each { All IsChannel channels.now }
-    requires some { (c : ℕ) → has starts c ≡ true → has listed c ≡ true }
+    requires some { (c : ℕ) → has events.starts c ≡ true → has listed c ≡ true }
     requires one_each { length (widths_under listed channels.now) ≤ length contents.now }
-    requires room { head_len (length channels.now) + sum_by byte_count (widths_under starts channels.now) ≤ length buf.old }
-    ensures bytes { buf.new ≡ events_bytes channels.now starts ends (picked listed starts 0 channels.now contents.now)
-        ++ drop result buf.old }
-    ensures place { result ≡ length (events_bytes channels.now starts ends (picked listed starts 0 channels.now contents.now)) }
+    requires room { head_len (length channels.now) + sum_by byte_count (widths_under events.starts channels.now) ≤ length buf.old }
+    ensures bytes { buf.new ≡ tagged_bytes channels.now events.gap events.starts events.ends
+        (picked listed events.starts 0 channels.now contents.now) ++ drop result buf.old }
+    ensures place { result ≡ length (tagged_bytes channels.now events.gap events.starts events.ends
+        (picked listed events.starts 0 channels.now contents.now)) }
 {
-    let tagged = write_at(buf, 0, &[1]);
-    let started = write_mask(buf, tagged, channels.len(), starts);
-    let ended = write_mask(buf, started, channels.len(), ends);
-    write_contents(buf, ended, channels, listed, starts, contents)
+    let tagged = write_at(buf, 0, &tag_bytes(1, events.gap));
+    let started = write_mask(buf, tagged, channels.len(), events.starts);
+    let ended = write_mask(buf, started, channels.len(), events.ends);
+    write_contents(buf, ended, channels, listed, events.starts, contents)
+}
+
+/// Writes a reset behind this gap at the front of the buffer, and gives its length, which is 3. The other bytes stay. The gap is below
+/// 65,536, and the buffer has 3 places.
+pub fn write_reset(gap: u32, buf: &mut [u8]) -> usize
+    requires gap { gap < GAP_LIMIT }
+    requires room { RESET_LEN ≤ length buf.old }
+    ensures bytes { (channels : List OneChannel) → buf.new ≡ packet_bytes channels (reset_packet gap) ++ drop result buf.old }
+    ensures len { result ≡ RESET_LEN }
+{
+    write_at(buf, 0, &tag_bytes(2, gap))
 }
 
 /// Whether something starts or ends in a row.
@@ -142,27 +171,25 @@ fn has_event(row: &Row) -> bool
     row.starts != 0 || row.ends != 0
 }
 
-/// Writes the packet of a row at the front of the buffer, and gives its length: 0 where the row has no
-/// event. The other bytes stay. The row is over these channels, and the buffer has room for a packet
-/// in which all of them start.
-pub fn write_packet(row: &Row, channels: &Channels, buf: &mut [u8]) -> usize
+/// Writes the packet of a row behind this gap at the front of the buffer, and gives its length: 0 where the row has no event. The other
+/// bytes stay. The gap is below 65,536, the row is over these channels, and the buffer has room for a packet in which all of them start.
+pub fn write_packet(row: &Row, gap: u32, channels: &Channels, buf: &mut [u8]) -> usize
     requires table { IsTable channels.now }
     requires row { IsOver channels.now row.now }
+    requires gap { gap < GAP_LIMIT }
     requires room { longest_packet channels.now ≤ length buf.old }
-    ensures bytes { buf.new ≡ row_bytes channels.now row.now ++ drop result buf.old }
-    ensures place { result ≡ length (row_bytes channels.now row.now) }
+    ensures bytes { buf.new ≡ row_bytes channels.now gap row.now ++ drop result buf.old }
+    ensures place { result ≡ length (row_bytes channels.now gap row.now) }
     ensures len { result ≡ packet_len channels.now row.now.starts row.now.ends }
 {
     if !has_event(row) {
         return 0;
     }
     let contents = row.contents.as_slice();
-    write_events(
-        buf,
-        channels.as_slice(),
-        u128::MAX,
-        row.starts,
-        row.ends,
-        contents,
-    )
+    let events = Events {
+        gap,
+        starts: row.starts,
+        ends: row.ends,
+    };
+    write_events(buf, channels.as_slice(), u128::MAX, events, contents)
 }

@@ -7,6 +7,8 @@ mod bytes_tests;
 #[cfg(test)]
 mod changed_tests;
 #[cfg(test)]
+mod changes;
+#[cfg(test)]
 mod clock_tests;
 #[cfg(test)]
 mod model_tests;
@@ -18,6 +20,8 @@ mod room_tests;
 mod salvage_tests;
 #[cfg(test)]
 mod store_tests;
+#[cfg(test)]
+mod table_tests;
 #[cfg(test)]
 mod text_tests;
 #[cfg(test)]

@@ -131,78 +131,79 @@ fn has_cycles(
     }
 }
 
-// A head is 3 bytes long, and each of the two channels needs 2 * 3 + 1 = 7. In cycle 0 the first one, a, starts and completes, in cycle 1
-// both start and the other one, b, completes, in cycle 2 a completes: 4 + 7 + 7 = 18, 9 + 3 + 7 > 18, and 12 + 7 > 18. Then 5 bytes drain,
-// where 7 + 7 <= 18 and 7 + 7 + 7 > 18, and then the others.
+// A head is 5 bytes long, and each of the two channels needs 2 * 5 + 1 = 11. In cycle 0 the first one, a, starts and completes, in cycle 1
+// both start and the other one, b, completes, in cycle 2 a completes: 6 + 11 + 11 = 28, 13 + 5 + 11 > 28, and 18 + 11 > 28. Then 5 bytes
+// drain, where 13 + 11 <= 28 and 13 + 11 + 11 > 28, and then the others.
 const STEPS: [(Emission, Behind, Next); 5] = [
-    ((1, 1, 4), (false, 0), (3, 4, false)),
-    ((3, 2, 5), (false, 0), (1, 9, false)),
-    ((0, 1, 3), (false, 0), (0, 12, false)),
-    ((0, 0, 0), (false, 5), (1, 7, false)),
-    ((0, 0, 0), (false, 7), (3, 0, false)),
+    ((1, 1, 6), (false, 0), (3, 6, false)),
+    ((3, 2, 7), (false, 0), (1, 13, false)),
+    ((0, 1, 5), (false, 0), (0, 18, false)),
+    ((0, 0, 0), (false, 5), (1, 13, false)),
+    ((0, 0, 0), (false, 13), (3, 0, false)),
 ];
 
-// Behind cycle 1, in which a is in flight, and behind the three cycles after it the design is reset: 4 + 7 + 3 + 7 = 21. Then 9 + 3 + 3 <= 21
-// leaves the permit, and 12 + 3 + 7 > 21 no gate; 18 + 3 = 21 leaves it too, and 21 + 3 > 21 doesn't. After 4 bytes have drained 17 + 3 <= 21
-// and 17 + 3 + 7 > 21, after 7 more 10 + 3 + 7 <= 21 and 10 + 3 + 7 + 7 > 21, and then the others drain.
-const RESETS: [(Emission, Behind, Next); 8] = [
-    ((1, 1, 4), (false, 0), (3, 4, true)),
-    ((3, 2, 5), (true, 0), (0, 12, true)),
-    ((0, 0, 0), (true, 0), (0, 15, true)),
+// In cycle 0 a starts, in cycle 1 b: 6 + 5 + 11 + 3 <= 28. Behind cycle 1, in which both are in flight, and behind the four cycles after it the
+// design is reset. Then 12 + 3 + 3 <= 28 leaves the permit, and 15 + 3 + 11 > 28 no gate; 24 + 3 <= 28 leaves it too, and 27 + 3 > 28 doesn't.
+// After 4 bytes have drained 23 + 3 <= 28 and 23 + 3 + 11 > 28, after 9 more 14 + 3 + 11 = 28, and then the others drain.
+const RESETS: [(Emission, Behind, Next); 9] = [
+    ((1, 0, 6), (false, 0), (3, 6, true)),
+    ((2, 0, 6), (true, 0), (0, 15, true)),
     ((0, 0, 0), (true, 0), (0, 18, true)),
-    ((0, 0, 0), (true, 0), (0, 21, false)),
-    ((0, 0, 0), (false, 4), (0, 17, true)),
-    ((0, 0, 0), (false, 7), (1, 10, true)),
-    ((0, 0, 0), (false, 10), (3, 0, true)),
+    ((0, 0, 0), (true, 0), (0, 21, true)),
+    ((0, 0, 0), (true, 0), (0, 24, true)),
+    ((0, 0, 0), (true, 0), (0, 27, false)),
+    ((0, 0, 0), (false, 4), (0, 23, true)),
+    ((0, 0, 0), (false, 9), (1, 14, true)),
+    ((0, 0, 0), (false, 14), (3, 0, true)),
 ];
 
-// With the least capacity: 7 + 7 + 3 = 17 leaves the permit behind the first reset, and 10 + 7 + 3 > 17 doesn't behind the second one.
+// With the least capacity: 9 + 11 + 3 <= 25 leaves the permit behind the first reset, and 12 + 11 + 3 > 25 doesn't behind the second one.
 const WAITS: [(Emission, Behind, Next); 2] = [
-    ((1, 1, 4), (true, 0), (2, 7, true)),
-    ((0, 0, 0), (true, 0), (2, 10, false)),
+    ((1, 1, 6), (true, 0), (2, 9, true)),
+    ((0, 0, 0), (true, 0), (2, 12, false)),
 ];
 
 // Gates go up while there is room.
 #[test]
 fn gates_follow_the_room(rt: HostRuntime) {
-    assert!(rt; has_cycles(rt.alloc(), false, 18, &STEPS));
+    assert!(rt; has_cycles(rt.alloc(), false, 28, &STEPS));
 }
 
 // The permit goes up before the gates, and a channel in flight loses its gate.
 #[test]
 fn permits_come_first(rt: HostRuntime) {
-    assert!(rt; has_cycles(rt.alloc(), true, 21, &RESETS));
-    assert!(rt; has_cycles(rt.alloc(), true, 17, &WAITS));
+    assert!(rt; has_cycles(rt.alloc(), true, 28, &RESETS));
+    assert!(rt; has_cycles(rt.alloc(), true, 25, &WAITS));
 }
 
 #[test]
 fn rooms_hold_what_channels_need(rt: HostRuntime) {
-    assert!(rt; is_need(rt.alloc(), 2, 8, false, 14));
-    assert!(rt; is_need(rt.alloc(), 2, 8, true, 17));
+    assert!(rt; is_need(rt.alloc(), 2, 8, false, 22));
+    assert!(rt; is_need(rt.alloc(), 2, 8, true, 25));
 }
 
-// The masks of 128 channels have 16 bytes each, so a head is 1 + 2 * 16 = 33 bytes long, and each channel needs 2 * 33 = 66: 8,448 bytes,
+// The masks of 128 channels have 16 bytes each, so a head is 3 + 2 * 16 = 35 bytes long, and each channel needs 2 * 35 = 70: 8,960 bytes,
 // and 2,048 more where each has 16 bytes of content.
 #[test]
 fn many_channels_have_room(rt: HostRuntime) {
-    assert!(rt; is_need(rt.alloc(), 128, 0, false, 8448));
-    assert!(rt; is_need(rt.alloc(), 128, 0, true, 8451));
-    assert!(rt; is_need(rt.alloc(), 128, 128, false, 10496));
+    assert!(rt; is_need(rt.alloc(), 128, 0, false, 8960));
+    assert!(rt; is_need(rt.alloc(), 128, 0, true, 8963));
+    assert!(rt; is_need(rt.alloc(), 128, 128, false, 11008));
 }
 
 /// Whether all of 128 channels with 16 bytes of content each start and complete in one cycle, and so many gates go up behind it.
 fn is_full_cycle_right(alloc: Global) -> bool {
-    match room_of(alloc, 128, 128, false, 10496) {
+    match room_of(alloc, 128, 128, false, 11008) {
         Ok(mut room) => {
-            let events = (u128::MAX, u128::MAX, 2081);
+            let events = (u128::MAX, u128::MAX, 2083);
             room.gates() == u128::MAX
-                && is_cycle_right(&mut room, events, (false, 0), ((1 << 102) - 1, 2081, false))
+                && is_cycle_right(&mut room, events, (false, 0), ((1 << 103) - 1, 2083, false))
         }
         Err(_) => false,
     }
 }
 
-// The packet has 33 + 2,048 bytes. Behind it each gate takes 66 + 16 = 82: 2,081 + 102 * 82 = 10,445, and 82 more don't fit.
+// The packet has 35 + 2,048 bytes. Behind it each gate takes 70 + 16 = 86: 2,083 + 103 * 86 = 10,941, and 86 more don't fit.
 #[test]
 fn many_channels_start(rt: HostRuntime) {
     assert!(rt; is_full_cycle_right(rt.alloc()));

@@ -20,19 +20,38 @@ fn is_body_saved(alloc: Global, body: &[u8], saved: &[u8]) -> bool {
     }
 }
 
-const ONE: [u8; 9] = [1, 1, 1, 5, 0, 0, 0, 0, 1];
+const ONE: [u8; 11] = [1, 0, 0, 1, 1, 5, 0, 0, 0, 0, 1];
 
-const FLYING: [u8; 9] = [1, 1, 0, 5, 0, 0, 0, 0, 1];
+const FLYING: [u8; 11] = [1, 0, 0, 1, 0, 5, 0, 0, 0, 0, 1];
+
+const CUT_OFF: [u8; 14] = [1, 0, 0, 1, 0, 5, 2, 0, 9, 0, 0, 0, 0, 2];
+
+const AGAIN: [u8; 20] = [1, 0, 0, 1, 0, 5, 2, 0, 9, 1, 0, 0, 1, 0, 6, 0, 0, 0, 0, 3];
 
 // Cut in the middle of a packet, cut behind the mark of a packet, a spare mask bit, a second start while
-// the first is in flight, another count, and more behind the end.
-const BODIES: [(&[u8], &[u8]); 6] = [
-    (&[1, 1, 1, 5, 1, 2, 2], &ONE),
-    (&[1, 1], &NO_SEND),
-    (&[1, 1, 1, 5, 1, 6, 2, 5, 0, 0, 0, 0, 2], &ONE),
-    (&[1, 1, 0, 5, 1, 1, 1, 5, 0, 0, 0, 0, 2], &FLYING),
-    (&[1, 1, 1, 5, 1, 2, 2, 5, 0, 0, 0, 0, 3], &ONE_SEND),
-    (&[1, 1, 1, 5, 1, 2, 2, 5, 0, 0, 0, 0, 2, 0], &ONE_SEND),
+// the first is in flight, another count, and more behind the end. Resets: cut in the gap, whole, with what is in flight
+// started once more behind it, and completed behind it.
+const BODIES: [(&[u8], &[u8]); 11] = [
+    (&[1, 0, 0, 1, 1, 5, 1, 0, 0, 2, 2], &ONE),
+    (&[1, 0, 0, 1], &NO_SEND),
+    (&[1, 0, 0, 1, 1, 5, 1, 0, 0, 6, 2, 5, 0, 0, 0, 0, 2], &ONE),
+    (
+        &[1, 0, 0, 1, 0, 5, 1, 0, 0, 1, 1, 5, 0, 0, 0, 0, 2],
+        &FLYING,
+    ),
+    (
+        &[1, 0, 0, 1, 1, 5, 1, 0, 0, 2, 2, 5, 0, 0, 0, 0, 3],
+        &ONE_SEND,
+    ),
+    (
+        &[1, 0, 0, 1, 1, 5, 1, 0, 0, 2, 2, 5, 0, 0, 0, 0, 2, 0],
+        &ONE_SEND,
+    ),
+    (&[1, 0, 0, 1, 0, 5, 2], &FLYING),
+    (&[1, 0, 0, 1, 0, 5, 2, 0], &FLYING),
+    (&[1, 0, 0, 1, 0, 5, 2, 0, 9], &CUT_OFF),
+    (&[1, 0, 0, 1, 0, 5, 2, 0, 9, 1, 0, 0, 1, 0, 6], &AGAIN),
+    (&[1, 0, 0, 1, 0, 5, 2, 0, 9, 1, 0, 0, 0, 1], &CUT_OFF),
 ];
 
 #[test]

@@ -5,13 +5,15 @@ ghost use Rattle.trace_v2.specs.trace_model.Packet.{count};
 ghost use Rattle.trace_v2.specs.trace_code.Encoding.{Encodes};
 ghost use Rattle.trace_v2.specs.trace_code.Stands.{Stands, WalksOver};
 
-use crate::bytes_tests::{NO_SEND, ONE_SEND, PASS, REGS, ROUND, TWO_SENDS, joined};
+use crate::bytes_tests::{
+    NO_SEND, ONE_SEND, PASS, REGS, RESET_BETWEEN, RESETS, ROUND, TWO_SENDS, joined,
+};
 use std::alloc::Global;
 use trace_v2::trace_code::{Cursor, decode};
 use trace_v2::trace_model::{Kind, Packet, Trace, names};
 
-/// An event: its clock, and the content of a start.
-type Event<'a> = (&'a [u32], &'a [u128]);
+/// An event: its epoch, its clock, and the content of a start.
+type Event<'a> = (u32, &'a [u32], &'a [u128]);
 
 /// Whether this is the clock of the cursor's next event.
 fn has_clock(cursor: &Cursor, t: &Trace, needs: &[u32]) -> bool
@@ -54,11 +56,14 @@ fn passes(cursor: &mut Cursor, t: &Trace, kind: Kind, channel: usize, event: Eve
     ensures over { WalksOver cursor.new kind channel }
     ensures stands { (j : ℕ) × Stands cursor.new t.now j }
 {
-    if cursor.at_end() || !has_clock(cursor, t, event.0) {
+    if cursor.at_end() {
+        return false;
+    }
+    if cursor.epoch() != event.0 || !has_clock(cursor, t, event.1) {
         return false;
     }
     let held = match kind {
-        Kind::Start => has_content(cursor, t, channel, event.1),
+        Kind::Start => has_content(cursor, t, channel, event.2),
         Kind::End | Kind::Reset => true,
     };
     cursor.step();
@@ -98,12 +103,12 @@ fn below_in(mask: u128, channel: usize) -> usize {
     below
 }
 
-/// The channels that have an event of this kind in a packet.
-fn mask_of(packet: &Packet, kind: Kind) -> u128 {
+/// Whether a packet has an event of this kind on a channel.
+fn has_event(packet: &Packet, kind: Kind, channel: usize) -> bool {
     match kind {
-        Kind::Start => packet.starts,
-        Kind::End => packet.ends,
-        Kind::Reset => 0,
+        Kind::Start => names(packet.starts, channel),
+        Kind::End => names(packet.ends, channel),
+        Kind::Reset => packet.reset,
     }
 }
 
@@ -125,18 +130,19 @@ fn passes_packet(
     packet: &Packet,
     kind: Kind,
     channel: usize,
-    needs: &[u32],
+    counted: (u32, &[u32]),
 ) -> bool
     requires over { WalksOver cursor.old kind channel }
     requires stands { (j : ℕ) × Stands cursor.old t.now j }
     ensures over { WalksOver cursor.new kind channel }
     ensures stands { (j : ℕ) × Stands cursor.new t.now j }
 {
-    if !names(mask_of(packet, kind), channel) {
+    if !has_event(packet, kind, channel) {
         return true;
     }
+    let (epoch, needs) = counted;
     match number_of(packet, kind, channel) {
-        Some(number) => passes(cursor, t, kind, channel, (needs, &[number])),
+        Some(number) => passes(cursor, t, kind, channel, (epoch, needs, &[number])),
         None => false,
     }
 }
@@ -147,9 +153,14 @@ fn passes_packets(cursor: &mut Cursor, t: &Trace, kind: Kind, channel: usize) ->
     requires stands { (j : ℕ) × Stands cursor.old t.now j }
 {
     let mut counts = [0u32; 32];
+    let mut epoch: u32 = 0;
     for packet in t.packets.as_slice() {
-        if !passes_packet(cursor, t, packet, kind, channel, &counts) {
+        if !passes_packet(cursor, t, packet, kind, channel, (epoch, &counts)) {
             return false;
+        }
+        if packet.reset {
+            counts = [0; 32];
+            epoch = epoch.wrapping_add(1);
         }
         count(&mut counts, packet.ends);
     }
@@ -203,64 +214,128 @@ const OF_TWO_SENDS: [Walk; 4] = [
         &TWO_SENDS,
         Kind::Start,
         0,
-        &[(&[0, 0], &[5]), (&[1, 0], &[6])],
+        &[(0, &[0, 0], &[5]), (0, &[1, 0], &[6])],
     ),
     (
         &PASS,
         &TWO_SENDS,
         Kind::Start,
         1,
-        &[(&[1, 0], &[5]), (&[2, 1], &[6])],
+        &[(0, &[1, 0], &[5]), (0, &[2, 1], &[6])],
     ),
     (
         &PASS,
         &TWO_SENDS,
         Kind::End,
         0,
-        &[(&[0, 0], &[]), (&[1, 1], &[])],
+        &[(0, &[0, 0], &[]), (0, &[1, 1], &[])],
     ),
     (
         &PASS,
         &TWO_SENDS,
         Kind::End,
         1,
-        &[(&[1, 0], &[]), (&[2, 1], &[])],
+        &[(0, &[1, 0], &[]), (0, &[2, 1], &[])],
     ),
 ];
 
 // Five channels of several ports, each of which starts and completes once in one packet.
 const OF_A_ROUND: [Walk; 10] = [
-    (&REGS, &ROUND, Kind::Start, 0, &[(&[0, 0, 0, 0, 0], &[0])]),
-    (&REGS, &ROUND, Kind::End, 0, &[(&[0, 0, 0, 0, 0], &[])]),
+    (
+        &REGS,
+        &ROUND,
+        Kind::Start,
+        0,
+        &[(0, &[0, 0, 0, 0, 0], &[0])],
+    ),
+    (&REGS, &ROUND, Kind::End, 0, &[(0, &[0, 0, 0, 0, 0], &[])]),
     (
         &REGS,
         &ROUND,
         Kind::Start,
         1,
-        &[(&[0, 0, 0, 0, 0], &[1000, 15])],
+        &[(0, &[0, 0, 0, 0, 0], &[1000, 15])],
     ),
-    (&REGS, &ROUND, Kind::End, 1, &[(&[0, 0, 0, 0, 0], &[])]),
-    (&REGS, &ROUND, Kind::Start, 2, &[(&[1, 1, 0, 0, 0], &[0])]),
-    (&REGS, &ROUND, Kind::End, 2, &[(&[1, 1, 0, 0, 0], &[])]),
-    (&REGS, &ROUND, Kind::Start, 3, &[(&[1, 1, 1, 0, 0], &[0])]),
-    (&REGS, &ROUND, Kind::End, 3, &[(&[1, 1, 1, 0, 0], &[])]),
+    (&REGS, &ROUND, Kind::End, 1, &[(0, &[0, 0, 0, 0, 0], &[])]),
+    (
+        &REGS,
+        &ROUND,
+        Kind::Start,
+        2,
+        &[(0, &[1, 1, 0, 0, 0], &[0])],
+    ),
+    (&REGS, &ROUND, Kind::End, 2, &[(0, &[1, 1, 0, 0, 0], &[])]),
+    (
+        &REGS,
+        &ROUND,
+        Kind::Start,
+        3,
+        &[(0, &[1, 1, 1, 0, 0], &[0])],
+    ),
+    (&REGS, &ROUND, Kind::End, 3, &[(0, &[1, 1, 1, 0, 0], &[])]),
     (
         &REGS,
         &ROUND,
         Kind::Start,
         4,
-        &[(&[1, 1, 1, 1, 0], &[1000, 0])],
+        &[(0, &[1, 1, 1, 1, 0], &[1000, 0])],
     ),
-    (&REGS, &ROUND, Kind::End, 4, &[(&[1, 1, 1, 1, 0], &[])]),
+    (&REGS, &ROUND, Kind::End, 4, &[(0, &[1, 1, 1, 1, 0], &[])]),
 ];
 
 // A trace without events, and channels of one event.
 const TO_THE_END: [Walk; 4] = [
     (&PASS, &NO_SEND, Kind::Start, 0, &[]),
     (&PASS, &NO_SEND, Kind::End, 1, &[]),
-    (&PASS, &ONE_SEND, Kind::End, 0, &[(&[0, 0], &[])]),
-    (&PASS, &ONE_SEND, Kind::End, 1, &[(&[1, 0], &[])]),
+    (&PASS, &ONE_SEND, Kind::End, 0, &[(0, &[0, 0], &[])]),
+    (&PASS, &ONE_SEND, Kind::End, 1, &[(0, &[1, 0], &[])]),
 ];
+
+// A reset between two sends: the second begins afresh. The resets themselves, of one trace and of another with four.
+const OVER_RESETS: [Walk; 8] = [
+    (
+        &PASS,
+        &RESET_BETWEEN,
+        Kind::Start,
+        0,
+        &[(0, &[0, 0], &[5]), (1, &[0, 0], &[6])],
+    ),
+    (
+        &PASS,
+        &RESET_BETWEEN,
+        Kind::End,
+        0,
+        &[(0, &[0, 0], &[]), (1, &[0, 0], &[])],
+    ),
+    (&PASS, &RESET_BETWEEN, Kind::Start, 1, &[(1, &[1, 0], &[6])]),
+    (&PASS, &RESET_BETWEEN, Kind::End, 1, &[(1, &[1, 0], &[])]),
+    (&PASS, &RESET_BETWEEN, Kind::Reset, 0, &[(0, &[1, 0], &[])]),
+    (
+        &PASS,
+        &RESETS,
+        Kind::Reset,
+        0,
+        &[
+            (0, &[0, 0], &[]),
+            (1, &[1, 0], &[]),
+            (2, &[0, 0], &[]),
+            (3, &[0, 1], &[]),
+        ],
+    ),
+    (
+        &PASS,
+        &RESETS,
+        Kind::Start,
+        1,
+        &[(1, &[1, 0], &[5]), (3, &[0, 0], &[7])],
+    ),
+    (&PASS, &ONE_SEND, Kind::Reset, 0, &[]),
+];
+
+#[test]
+fn cursors_go_over_resets(rt: HostRuntime) {
+    assert!(rt; are_walked(rt.alloc(), &OVER_RESETS));
+}
 
 fn are_walked(alloc: Global, walks: &[Walk]) -> bool {
     let mut right = true;
@@ -287,7 +362,7 @@ fn cursors_come_to_the_end(rt: HostRuntime) {
 
 /// The header of 32 channels of one port of 8 bits, inward and outward in turn, with one letter each as their names.
 const WIDE: &[u8; 169] =
-    b"VIDITRC1\x20\x00\x01a\x01\x08\x01\x01b\x01\x08\x00\x01c\x01\x08\x01\x01d\x01\x08\
+    b"VIDITRC2\x20\x00\x01a\x01\x08\x01\x01b\x01\x08\x00\x01c\x01\x08\x01\x01d\x01\x08\
     \x00\x01e\x01\x08\x01\x01f\x01\x08\x00\x01g\x01\x08\x01\x01h\x01\x08\
     \x00\x01i\x01\x08\x01\x01j\x01\x08\x00\x01k\x01\x08\x01\x01l\x01\x08\
     \x00\x01m\x01\x08\x01\x01n\x01\x08\x00\x01o\x01\x08\x01\x01p\x01\x08\
@@ -333,10 +408,15 @@ fn has_contents(bytes: &mut Vec<u8>, p: u32, starts: u32) -> bool {
     true
 }
 
-/// Whether there is memory for packet `p`.
+/// Whether there is memory for packet `p`, behind a gap of as many cycles as it has. The last of each 500 is a reset.
 fn has_packet(bytes: &mut Vec<u8>, p: u32, in_turn: bool) -> bool {
-    let (starts, ends) = masks_in(p, in_turn);
-    bytes.push(1).is_ok()
+    let behind = p % 500;
+    let [_, _, high, low] = p.to_be_bytes();
+    if behind == 499 {
+        return bytes.extend_from_slice(&[2, high, low]).is_ok();
+    }
+    let (starts, ends) = masks_in(behind, in_turn);
+    bytes.extend_from_slice(&[1, high, low]).is_ok()
         && bytes.extend_from_slice(&starts.to_le_bytes()).is_ok()
         && bytes.extend_from_slice(&ends.to_le_bytes()).is_ok()
         && has_contents(bytes, p, starts)
@@ -368,6 +448,7 @@ fn are_given(alloc: Global, bytes: &[u8], t: &Trace) -> bool
         right &= gives(alloc, bytes, t, Kind::Start, c, None);
         right &= gives(alloc, bytes, t, Kind::End, c, None);
     }
+    right &= gives(alloc, bytes, t, Kind::Reset, 0, None);
     right
 }
 

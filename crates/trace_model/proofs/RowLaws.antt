@@ -1,7 +1,7 @@
 -- Laws of rows: their trace grows row by row, alternates, and is well-formed.
 use Rattle.std.proofs.Common.{◌≡◌, ◌≢◌, ◌⊎◌, ℕ, zero, suc, ◌+◌, ◌<◌, ◌≤◌, Bool, true, false, cond, not, eqb, ◌&&◌, List, [], ◌∷◌, ◌++◌}
 use Rattle.std.proofs.Common.{Option, Some, None, All, length, take, drop, get_or, slice_get, map, inl, inr, ⊎_elim, refl, ap, sym, subst}
-use Rattle.std.proofs.Common.{◌∙◌, append_assoc, arith}
+use Rattle.std.proofs.Common.{◌∙◌, append_assoc, arith, lit<}
 use Rattle.std.specs.Int.{bit_at}
 use Rattle.std.specs.List.{filter, flat_map, enumerate_from}
 use Rattle.std.proofs.lemmas.Bool.{cases_lt, false≢true, eqb-true, eqb-false}
@@ -16,7 +16,7 @@ use Rattle.trace_model.specs.declared.event.Kind.{Kind}
 use Rattle.trace_model.specs.declared.event.Kind.TheVariants.{Start, End, Reset}
 use Rattle.trace_model.specs.declared.packet.Packet.{Packet}
 use Rattle.trace_model.specs.declared.row.Row.{Row}
-use Rattle.trace_model.specs.Laws.{RecordedOnce, RowAddsItsPacket, KeepsInFlight, RowsAreWellFormed, StartsWaitForEnds}
+use Rattle.trace_model.specs.Laws.{RecordedOnce, RowAddsItsPacket, KeepsInFlight, StartsWaitForEnds}
 use Rattle.trace_model.specs.Packet.{does, count, content_of, widths_of, widths_under, plain_packet, Fit, IsPacket}
 use Rattle.trace_model.specs.Recording.{row_does, shown, has_event, contents_under, packet_of, packets_of, recorded, transactions}
 use Rattle.trace_model.specs.Row.{all_widths, content_at, sink_valid, completes, is_in_flight, row_before, flies_after, IsOver, IsMarked}
@@ -46,7 +46,7 @@ flag b = cond b 1 0
 pub has-none : (c : ℕ) → has 0 c ≡ false
 has-none c = ap (λ n. eqb n 1) (bit_at-zero c)
 
-no-event : (starts ends : ℕ) → not (eqb starts 0 && eqb ends 0) ≡ false → (starts ≡ 0) × (ends ≡ 0)
+pub no-event : (starts ends : ℕ) → not (eqb starts 0 && eqb ends 0) ≡ false → (starts ≡ 0) × (ends ≡ 0)
 no-event starts ends h = cases (eqb starts 0) (eqb ends 0) h (eqb-true starts 0) (eqb-true ends 0)
   where
     cases : (a b : Bool) → not (a && b) ≡ false → (a ≡ true → starts ≡ 0) → (b ≡ true → ends ≡ 0) → (starts ≡ 0) × (ends ≡ 0)
@@ -55,7 +55,7 @@ no-event starts ends h = cases (eqb starts 0) (eqb ends 0) h (eqb-true starts 0)
     cases false b h p q = absurd (false≢true (sym h))
 
 -- an event's row has one
-quiet : (kind : Kind) (c : ℕ) (row : Row) → has_event row ≡ false → row_does kind c row ≡ false
+pub quiet : (kind : Kind) (c : ℕ) (row : Row) → has_event row ≡ false → row_does kind c row ≡ false
 quiet Start c row h = ap (λ m. has m c) (no-event row.starts row.ends h).0 ∙ has-none c
 quiet End c row h = ap (λ m. has m c) (no-event row.starts row.ends h).1 ∙ has-none c
 quiet Reset c row h = refl
@@ -137,7 +137,7 @@ counted-suc rows n row before turns at c =
     ∙ ap (λ k. shown End c (take n rows) + k) (cond-has row.ends c) in
     omega (arith, s, e, before c, (turns c).on)
 
-row-at : (rows : List Row) (n : ℕ) → n < length rows → (row : Row) × (slice_get rows n ≡ Some row)
+pub row-at : (rows : List Row) (n : ℕ) → n < length rows → (row : Row) × (slice_get rows n ≡ Some row)
 row-at rows n l = ⊎_elim
     (λ (w : (x : Row) × (n < length rows) × (slice_get rows n ≡ Some x) × (get_or rows n x ≡ x)). (w.0, w.2))
     (λ (w : (length rows ≤ n) × (slice_get rows n ≡ None)). absurd (omega (arith, w.0)))
@@ -151,13 +151,9 @@ counted channels rows are keeps (suc n) l =
     counted-suc rows n r.0 (counted channels rows are keeps n (omega arith)) (λ c. turn rows n r.0 c (are n r.0 r.1).1 keeps r.1) r.1
 
 -- ---- a packet of each row
-event-of : (starts ends : ℕ) → not (eqb starts 0 && eqb ends 0) ≡ true → (starts ≢ 0) ⊎ (ends ≢ 0)
-event-of starts ends h = cases (eqb starts 0) (eqb ends 0) h (eqb-false starts 0) (eqb-false ends 0)
-  where
-    cases : (a b : Bool) → not (a && b) ≡ true → (a ≡ false → starts ≢ 0) → (b ≡ false → ends ≢ 0) → (starts ≢ 0) ⊎ (ends ≢ 0)
-    cases true true h p q = absurd (false≢true h)
-    cases true false h p q = inr (q refl)
-    cases false b h p q = inl (p refl)
+event-of : (b : Bool) → not b ≡ true → false ≡ b
+event-of true h = absurd (false≢true h)
+event-of false h = refl
 
 abbrev pub taken_of : ℕ → List Channel → List ℕ → ℕ → List Channel → List ℕ
 taken_of mask cs numbers n ds = flat_map (λ (c : ℕ × Channel). cond (has mask c.0) (content_at cs numbers c.0) []) (enumerate_from n ds)
@@ -198,27 +194,27 @@ fit-from mask cs numbers front (d ∷ ds) back n e l f =
     (content-fits-at front (ds ++ back) cs d numbers n e l f) (fit-from mask cs numbers (front ++ d ∷ []) ds back (n + 1) grouped
     further f)
 
-is-packet : (channels : List Channel) (row : Row) → IsOver channels row → has_event row ≡ true → IsPacket channels (packet_of channels row)
+pub is-packet : (channels : List Channel) (row : Row) → IsOver channels row → has_event row ≡ true → IsPacket channels (packet_of channels row)
 is-packet channels row over h = record {
-  plain = (refl, refl);
-  event = event-of row.starts row.ends h;
+  gap = lit< tt;
+  event = event-of (eqb row.starts 0 && eqb row.ends 0) h;
   starts = over.starts;
   ends = over.ends;
   contents = fit-from row.starts channels row.contents [] channels [] 0 (sym (append-nil channels)) refl over.contents;
 }
 
--- a packet is that of its events
-pub plain-is : (channels : List Channel) (p : Packet) → IsPacket channels p → plain_packet p.starts p.ends p.contents ≡ p
-plain-is channels p is = same p.gap p.reset is.plain.0 is.plain.1
+-- a packet that is no reset and has no gap
+pub plain-is : (p : Packet) → p.gap ≡ 0 → p.reset ≡ false → plain_packet p.starts p.ends p.contents ≡ p
+plain-is p none row = same p.gap p.reset none row
   where
     same : (gap : ℕ) (reset : Bool) → gap ≡ 0 → reset ≡ false → plain_packet p.starts p.ends p.contents
         ≡ record { gap = gap; reset = reset; starts = p.starts; ends = p.ends; contents = p.contents }
     same gap reset g r = λ i. record { gap = (sym g) i; reset = (sym r) i; starts = p.starts; ends = p.ends; contents = p.contents }
 
 -- ---- the trace of each front
-record Good (channels : List Channel) (ps : List Packet) : Type 0 where
-  each : All (IsPacket channels) ps
-  alternate : Alternates ps
+pub record Good (channels : List Channel) (ps : List Packet) : Type 0 where
+  pub each : All (IsPacket channels) ps
+  pub alternate : Alternates ps
 
 good-push : (channels : List Channel) (rows : List Row) (n : ℕ) (row : Row) → AreRows channels rows → KeepsInFlight rows → n ≤ length rows
     → slice_get rows n ≡ Some row → Good channels (packets_of channels (take n rows)) → has_event row ≡ true
@@ -253,12 +249,10 @@ good channels rows are keeps (suc n) l =
     subst (Good channels) (sym more) (good-suc channels rows n r.0 are keeps (omega arith) r.1
     (good channels rows are keeps n (omega arith)) (has_event r.0) refl)
 
-pub well-formed : RowsAreWellFormed
-well-formed channels rows are keeps =
+pub good-all : (channels : List Channel) (rows : List Row) → AreRows channels rows → KeepsInFlight rows → Good channels (packets_of channels rows)
+good-all channels rows are keeps =
     let g = good channels rows are keeps (length rows) (omega arith) in
-    let all : take (length rows) rows ≡ rows = take_all (length rows) rows (omega arith) in
-    let whole = subst (λ (rs : List Row). Good channels (packets_of channels rs)) all g in
-    record { packets = whole.each; alternate = whole.alternate }
+    subst (λ (rs : List Row). Good channels (packets_of channels rs)) (take_all (length rows) rows (omega arith)) g
 
 -- ---- starts and ends
 -- where a channel starts, each transaction before has completed
@@ -334,7 +328,7 @@ split-table (x ∷ xs) (suc c) l =
     let s = split-table xs c (omega arith) in
     (x ∷ s.0, s.1, s.2, ap (λ ys. x ∷ ys) s.3, ap suc s.4)
 
-same-content_of : (cs : List Channel) (row : Row) (c : ℕ) → IsOver cs row → has row.starts c ≡ true → content_of cs (packet_of cs row) c
+pub same-content_of : (cs : List Channel) (row : Row) (c : ℕ) → IsOver cs row → has row.starts c ≡ true → content_of cs (packet_of cs row) c
     ≡ content_at cs row.contents c
 same-content_of cs row c over h =
     let l : c < length cs = ⊎_elim

@@ -1,4 +1,4 @@
--- How many bytes a packet has (this project's profile): a byte, the two masks, and the contents of the starts.
+-- How many bytes a packet has (this project's profile): a byte, the gap in two, the two masks, and the contents of the starts.
 use Rattle.std.specs.Prelude.{ℕ, ◌+◌, ◌*◌, ◌==◌, ◌&&◌, List, length, sum_by, if◌then◌else◌}
 use Rattle.std.specs.List.{enumerate_from}
 use Rattle.vidi_bits.specs.Number.{has}
@@ -11,7 +11,7 @@ mask_len n = byte_count n
 
 -- the bytes of a packet of n channels without contents
 abbrev pub head_len : ℕ → ℕ
-head_len n = 1 + 2 * mask_len n
+head_len n = 3 + 2 * mask_len n
 
 -- the bytes of the contents of the channels that a mask names
 abbrev pub contents_len : ℕ → List Channel → ℕ

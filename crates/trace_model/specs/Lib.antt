@@ -2,6 +2,7 @@ pub mod Counting
 pub mod Mask
 pub mod Channel
 pub mod Packet
+pub mod Epoch
 pub mod Trace
 pub mod Clock
 pub mod Length

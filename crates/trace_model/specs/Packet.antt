@@ -1,5 +1,5 @@
 -- What one packet records: the starts and the ends of a cycle, and the contents of the starts.
-use Rattle.std.specs.Prelude.{◌≡◌, ◌≢◌, ℕ, ◌<◌, ◌^◌, ◌⊎◌, Bool, false, List, [], Option, Some, None, take, drop, length, slice_get, count_by}
+use Rattle.std.specs.Prelude.{◌≡◌, ℕ, ◌<◌, ◌^◌, ◌==◌, ◌&&◌, Bool, false, List, [], Option, Some, None, take, drop, length, slice_get, count_by}
 use Rattle.std.specs.Prelude.{if◌then◌else◌}
 use Rattle.std.specs.List.{AllZip, flat_map, enumerate_from}
 use Rattle.vidi_bits.specs.Number.{has}
@@ -7,6 +7,7 @@ use Rattle.trace_model.specs.declared.channel.Channel.{Channel}
 use Rattle.trace_model.specs.declared.event.Kind.{Kind}
 use Rattle.trace_model.specs.declared.event.Kind.TheVariants.{Start, End, Reset}
 use Rattle.trace_model.specs.declared.packet.Packet.{Packet}
+use Rattle.trace_model.specs.declared.packet.TheConstants.{GAP_LIMIT}
 
 -- whether a packet has a start, or an end, of channel c; or whether it is a reset, which is no channel's
 abbrev pub does : Kind → ℕ → Packet → Bool
@@ -39,11 +40,15 @@ content_of channels p c = take (length (widths_of (slice_get channels c)))
 abbrev pub plain_packet : ℕ → ℕ → List ℕ → Packet
 plain_packet starts ends contents = record { gap = 0; reset = false; starts = starts; ends = ends; contents = contents }
 
--- a packet over these channels: it has no gap, is no reset and has an event, its masks name channels of the table, and each start has one
--- number a port that fits it
+-- whether nothing starts and nothing ends
+abbrev pub is_bare : ℕ → ℕ → Bool
+is_bare starts ends = starts == 0 && ends == 0
+
+-- a packet over these channels: a reset has no event and every other one has, its masks name channels of the table, and each start has
+-- one number a port that fits it
 pub record IsPacket (channels : List Channel) (p : Packet) : Type 0 where
-  pub plain : (p.gap ≡ 0) × (p.reset ≡ false)
-  pub event : (p.starts ≢ 0) ⊎ (p.ends ≢ 0)
+  pub gap : p.gap < GAP_LIMIT
+  pub event : p.reset ≡ is_bare p.starts p.ends
   pub starts : p.starts < 2 ^ length channels
   pub ends : p.ends < 2 ^ length channels
   pub contents : Fit (widths_under p.starts channels) p.contents

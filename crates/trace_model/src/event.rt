@@ -2,7 +2,7 @@
 
 use vidi_bits::Items;
 
-/// Whether an event is the start or the completion of a transaction, or a reset, which no packet has today.
+/// Whether an event is the start or the completion of a transaction, or a reset.
 #[derive(Clone, Copy, Debug, PartialEq, Eq)]
 pub enum Kind {
     Start,
@@ -17,7 +17,7 @@ pub struct Event {
     pub channel: usize,
     pub kind: Kind,
     pub index: u32,
-    /// How many resets came before it: 0 today.
+    /// How many resets came before it.
     pub epoch: u32,
 }
 

@@ -1,6 +1,6 @@
 //! How many bytes packets have.
 
-ghost use Rattle.std.specs.Prelude.{◌≡◌, ◌<◌, ◌≤◌, ◌^◌, length, sum_by, if◌then◌else◌};
+ghost use Rattle.std.specs.Prelude.{◌≡◌, ◌+◌, ◌<◌, ◌≤◌, ◌^◌, length, sum_by, if◌then◌else◌};
 ghost use Rattle.trace_model.specs.declared.packet.TheConstants.{LONGEST_PACKET};
 ghost use Rattle.trace_model.specs.Channel.{content_bytes, IsTable};
 ghost use Rattle.trace_model.specs.Length.{head_len, longest_packet};
@@ -13,7 +13,7 @@ use crate::row::Row;
 pub fn head_len(channels: usize) -> usize
     ensures { result ≡ head_len channels }
 {
-    1 + 2 * channels.div_ceil(8)
+    3 + 2 * channels.div_ceil(8)
 }
 
 /// The bytes of a channel's content.
@@ -49,13 +49,9 @@ pub fn longest_packet(channels: &[Channel]) -> usize
     head_len(channels.len()) + all_contents_len(channels)
 }
 
-/// How many packets a row has: one where it has an event.
+/// How many packets a row has: a reset where it is fresh, and one more where it has an event.
 pub fn packets_in(row: &Row) -> u32
-    ensures { result ≡ (if has_event row.now then 1 else 0) }
+    ensures { result ≡ (if row.now.fresh then 1 else 0) + (if has_event row.now then 1 else 0) }
 {
-    if row.starts == 0 && row.ends == 0 {
-        0
-    } else {
-        1
-    }
+    u32::from(row.fresh) + u32::from(row.starts != 0 || row.ends != 0)
 }

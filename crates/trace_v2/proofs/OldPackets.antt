@@ -1,6 +1,6 @@
 -- Two laws of an old packet: what is read is spelled so, and what is spelled so is read.
 use Rattle.std.proofs.Common.{◌≡◌, ℕ, eqb, List, [], ◌∷◌, ◌++◌, length, Some, Result, Ok, Err, MatchResult, refl, sym, ap, subst, ◌∙◌}
-use Rattle.std.proofs.Common.{append_assoc}
+use Rattle.std.proofs.Common.{append_assoc, lit<}
 use Rattle.std.specs.Prelude.{IfOk}
 use Rattle.std.proofs.lemmas.Bool.{eqb-true}
 use Rattle.std.proofs.lemmas.Option.{same_Some, none-some, cond_some}
@@ -65,7 +65,7 @@ old_packet_takes cs bytes x fits e =
     second.parts.parts ∙ append_assoc masks ends b.0.2 ∙ ap (λ (t : List ℕ). masks ++ (ends ++ t)) third.0.parts in
     let whole : bytes ≡ old_packet_bytes cs made.0 ++ made.1 = first ∙ ap (λ (t : List ℕ). 1 ∷ t) inner ∙ sym (regroup cs made.0 made.1) in
     subst (λ (y : Packet × List ℕ). IsOldPacket cs y.0 × (bytes ≡ old_packet_bytes cs y.0 ++ y.1)) (same_Some made x d.2)
-    ((record { plain = (refl, refl); event = second.event; starts = second.starts; ends = second.ends; contents = third.1 }, (refl, refl)), whole)
+    ((record { gap = lit< tt; event = second.event; starts = second.starts; ends = second.ends; contents = third.1 }, (refl, refl)), whole)
 
 pub old_packet_again : (cs : List Channel) (p : Packet) (rest : List ℕ) → IsOldPacket cs p → old_packet_at cs (old_packet_bytes cs p ++ rest)
     ≡ Some (p, rest)
@@ -76,9 +76,9 @@ old_packet_again cs p rest h =
     ∙ rw (
       tag_again (mask_bytes (length cs) p.starts ++ (mask_bytes (length cs) p.ends ++ numbers)),
       masks_again (length cs) p.starts p.ends
-          numbers h.0.starts h.0.ends h.0.event,
+          numbers h.0.starts h.0.ends (sym h.1.1 ∙ h.0.event),
       numbers_again (widths_under p.starts cs) p.contents rest h.0.contents,
-    ) (ap (λ (q : Packet). Some (q, rest)) (plain-is cs p h.0))
+    ) (ap (λ (q : Packet). Some (q, rest)) (plain-is p h.1.0 h.1.1))
 
 -- ---- what reading gives, as clauses say it
 

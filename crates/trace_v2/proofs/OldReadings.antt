@@ -12,6 +12,7 @@ use Rattle.trace_code.specs.trace_model.declared.trace.Trace.{Trace}
 use Rattle.trace_code.specs.trace_model.Trace.{Alternates}
 use Rattle.trace_code.specs.Encoding.{end_mark}
 use Rattle.trace_code.specs.Reading.{AreChannels}
+use Rattle.trace_code.proofs.trace_model_lemmas.EpochLemmas.{epoch-all, epochs-alone}
 use Rattle.trace_code.proofs.trace_model_lemmas.FlightLemmas.{alternates-front}
 use Rattle.trace_code.proofs.Readings.{as-long, longer, same_channels, same_trace}
 use Rattle.trace_code.proofs.Spelled.{EndsNowhere, GoesOn, compared, ended, none-behind, packets-few}
@@ -51,7 +52,7 @@ pub encoding-splits : (t : Trace) (bytes : List ℕ) → EncodesOld t bytes → 
 encoding-splits t bytes h = record {
   table = h.0.table;
   each = λ k d lt. (h.0.well_formed.packets k d lt, h.0.old k d lt);
-  alternate = h.0.well_formed.alternate;
+  alternate = subst Alternates (epoch-all t.packets (λ k d lt. (h.0.old k d lt).1)) (h.0.well_formed.alternate 0);
   parts = sym
       h.1;
 }
@@ -185,7 +186,7 @@ all-encoded cs bytes body rest ps table whole all (few, end) = (
   record {
     table = table;
     old = λ k d lt. (all.each k d lt).1;
-    well_formed = record { packets = λ k d lt. (all.each k d lt).0; alternate = all.alternate };
+    well_formed = record { packets = λ k d lt. (all.each k d lt).0; alternate = epochs-alone ps (λ k d lt. (all.each k d lt).1.1) all.alternate };
     few = few;
   },
   ap (λ bs. old_header_bytes cs ++ (flat_map (old_packet_bytes cs) ps ++ bs)) (sym end) ∙ ap (λ bs. old_header_bytes cs ++ bs) (sym all.parts)

@@ -1,5 +1,5 @@
 use Rattle.std.proofs.Common.{arith}
-use Rattle.trace_code.proofs.Skips.{skipped-few, skipped-on}
+use Rattle.trace_code.proofs.Skips.{skipped-all, skipped-few, skipped-none, skipped-on}
 use Rattle.trace_code.proofs.skipping.skip_packets.Goals as goal
 
 pub overflow_add-packets : goal.overflow_add-packets
@@ -13,3 +13,11 @@ loop-after-preserved c =
     let follows = rw c.in-Some.is at c.skip_packet.ensures.found in
     skipped-on c.args.channels.now c.args.bytes.now c.loop-after.packets c.loop-after.flying c.in-Some.after c.loop-after.rest.now
     c.in-Some.others.now c.loop-after.invariant follows
+
+pub loop-after-init : goal.loop-after-init
+loop-after-init c = skipped-none c.args.channels.now c.args.bytes.now
+
+pub returns : goal.returns
+returns c =
+    skipped-all c.args.channels.now c.args.bytes.now c.loop-after.packets c.loop-after.flying c.loop-after.rest.now c.loop-after.invariant
+    c.in_default.ensures.none

@@ -2,16 +2,16 @@ use Rattle.std.proofs.Common.{◌≡◌, ℕ, ◌+◌, take, length}
 use Rattle.vec_clock.specs.trace_model.declared.trace.Trace.{Trace}
 use Rattle.vec_clock.specs.trace_model.Packet.{count}
 use Rattle.trace_code.specs.Standing.{IsAt}
-use Rattle.trace_code.specs.Tallied.{tallied}
+use Rattle.trace_code.specs.Counted.{counted}
 use Rattle.trace_code.proofs.walk.seek.Given as goal
 
 abbrev pub invariant-packets : goal.invariant-packets
 invariant-packets l = record {
   k : ℕ;
-  is : (t : Trace) (p : ℕ) → IsAt t p l.initial.head.sizes.items l.fn.rest (tallied l.initial.tally.clock l.initial.tally.ends l.initial.tally.times)
-      → IsAt t (p + k) l.head.sizes.items l.here (tallied l.tally.clock l.tally.ends l.tally.times);
+  is : (t : Trace) (p : ℕ) → IsAt t p l.initial.head.sizes.items l.fn.rest (counted l.initial.tally)
+      → IsAt t (p + k) l.head.sizes.items l.here (counted l.tally);
   before : (t : Trace) (p : ℕ)
-      → IsAt t p l.initial.head.sizes.items l.fn.rest (tallied l.initial.tally.clock l.initial.tally.ends l.initial.tally.times)
+      → IsAt t p l.initial.head.sizes.items l.fn.rest (counted l.initial.tally)
       → count l.kind l.channel (take (p + k) t.packets) ≡ count l.kind l.channel (take p t.packets);
   sizes : l.head.sizes.items ≡ l.initial.head.sizes.items;
 }

@@ -19,13 +19,13 @@ pub returns-clause-bytes : goal.returns-clause-bytes
 returns-clause-bytes c =
     let bytes = rw (c.as_slice.ensures, c.as_slice-contents.ensures) at c.write_events.ensures.bytes in
     bytes ∙ ap (λ bs. bs ++ drop c.write_events.result c.args.buf.now)
-    (row-packet c.args.channels.now c.args.row.now (omega (arith, c.requires.table.few))
+    (row-packet c.args.channels.now c.args.gap c.args.row.now (omega (arith, c.requires.table.few))
     (sym c.has_event.ensures ∙ c.if-not-has_event.false))
 
 pub returns-clause-place : goal.returns-clause-place
 returns-clause-place c =
     let place = rw (c.as_slice.ensures, c.as_slice-contents.ensures) at c.write_events.ensures.place in
-    place ∙ ap length (row-packet c.args.channels.now c.args.row.now (omega (arith, c.requires.table.few))
+    place ∙ ap length (row-packet c.args.channels.now c.args.gap c.args.row.now (omega (arith, c.requires.table.few))
     (sym c.has_event.ensures ∙ c.if-not-has_event.false))
 
 pub returns-clause-len : goal.returns-clause-len
@@ -33,5 +33,5 @@ returns-clause-len c =
     let few = c.requires.table.few in
     let event = sym c.has_event.ensures ∙ c.if-not-has_event.false in
     let place = rw (c.as_slice.ensures, c.as_slice-contents.ensures) at c.write_events.ensures.place in
-    place ∙ ap length (row-packet c.args.channels.now c.args.row.now (omega arith) event)
-    ∙ row-length c.args.channels.now c.args.row.now (omega arith) c.requires.row.starts c.requires.row.contents event
+    place ∙ ap length (row-packet c.args.channels.now c.args.gap c.args.row.now (omega arith) event)
+    ∙ row-length c.args.channels.now c.args.gap c.args.row.now (omega arith) c.requires.row.starts c.requires.row.contents event

@@ -35,3 +35,13 @@ returns-clause-only c t code =
     (c.is_end_mark.ensures.0 c.if-not-is_end_mark.false) in
     one_old_reading c.args.bytes.now (record { channels = cs; packets = ps }) t
     (all-encoded cs c.args.bytes.now c.in_ok-channels.rest.now c.in_ok-packets.rest.now ps found.0 found.1 all end) code
+
+pub returns-clause-decodes : goal.returns-clause-decodes
+returns-clause-decodes c =
+    let cs = c.in_ok-channels.channels in
+    let ps = c.in_ok-packets.packets in
+    let found = c.in_ok-channels.ensures.found in
+    let all : AreAllOld cs c.in_ok-channels.rest.now ps c.in_ok-packets.rest.now = rw c.as_slice.ensures at c.in_ok-packets.ensures in
+    let end : (length ps < 2 ^ 32) × (c.in_ok-packets.rest.now ≡ end_mark (length ps)) = rw c.len.ensures at
+    (c.is_end_mark.ensures.0 c.if-not-is_end_mark.false) in
+    all-encoded cs c.args.bytes.now c.in_ok-channels.rest.now c.in_ok-packets.rest.now ps found.0 found.1 all end

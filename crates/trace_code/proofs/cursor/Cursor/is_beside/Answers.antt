@@ -1,5 +1,5 @@
 use Rattle.std.proofs.lemmas.Bool.{eqb-true, eq-eqb}
-use Rattle.trace_code.specs.Tallied.{tallied}
+use Rattle.trace_code.specs.Counted.{counted}
 use Rattle.trace_code.proofs.Beside.{beside, not-beside}
 use Rattle.trace_code.proofs.cursor.Cursor.is_beside.Goals as goal
 
@@ -7,8 +7,8 @@ pub returns : goal.returns
 returns c t i j p packet s u is =
     let k = c.args.self.now in
     let o = c.args.other.now in
-    let clock = tallied k.clock.clock k.clock.ends k.clock.times in
-    let clock2 = tallied o.clock.clock o.clock.ends o.clock.times in (
+    let clock = counted k.clock in
+    let clock2 = counted o.clock in (
       λ r. beside t k.kind o.kind k.channel o.channel i j k.head.sizes.items k.rest.now clock o.head.sizes.items o.rest.now clock2 s.0 u.0 p packet is
           (eqb-true _ _ r),
       λ too. eq-eqb _ _

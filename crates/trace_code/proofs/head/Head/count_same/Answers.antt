@@ -1,5 +1,5 @@
 use Rattle.std.proofs.Common.{◌≡◌, ◌+◌, ◌-◌, ◌*◌, length, take, drop, refl, subst}
-use Rattle.trace_code.specs.Heads.{AreMasks}
+use Rattle.trace_code.specs.Heads.{IsHead}
 use Rattle.trace_code.proofs.Ahead.{ahead-on, alike-on}
 use Rattle.trace_code.proofs.head.Head.count_same.Goals as goal
 
@@ -14,6 +14,6 @@ loop-same-preserved c =
     let at : next ≡ drop ((s + 1) * h.len) rest = ahead-on s h.len rest here next c.loop-same.invariant.here refl in
     record {
       here = at;
-      alike = alike-on n h.starts h.ends h.len s rest c.loop-same.invariant.alike
-          (subst (AreMasks n h.starts h.ends) at (c.is_of.ensures c.if-not-is_of.false));
+      alike = alike-on n h.reset h.starts h.ends h.len s rest c.loop-same.invariant.alike
+          (subst (IsHead n h.reset h.starts h.ends) at (c.is_of.ensures c.if-not-is_of.false));
     }

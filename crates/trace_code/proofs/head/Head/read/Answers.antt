@@ -1,43 +1,36 @@
-use Rattle.std.proofs.Common.{◌≡◌, ℕ, ◌+◌, ◌-◌, ◌*◌, ◌^◌, ◌≤◌, List, length, take, drop, sym, ap, subst, ◌∙◌, arith}
+use Rattle.std.proofs.Common.{◌≡◌, ◌+◌, ◌-◌, length, take, drop, sym, refl, ap, ◌∙◌, arith}
 use Rattle.std.proofs.lemmas.List.{length-drop, take_all}
 use Rattle.vec_clock.specs.trace_model.Length.{head_len, mask_len, sizes_under}
-use Rattle.trace_code.specs.Heads.{IsWord}
-use Rattle.trace_code.proofs.NumberLaws.{IsBytes-drop}
-use Rattle.trace_code.proofs.Words.{front-small, joined-word, joins}
+use Rattle.trace_code.proofs.Masks.{read-by}
 use Rattle.trace_code.proofs.head.Head.read.Goals as goal
 
-pub join-self-requires-clause-fits : goal.join-self-requires-clause-fits
-join-self-requires-clause-fits c =
+pub returns-clause-head : goal.returns-clause-head
+returns-clause-head c =
     let rest = c.args.rest.now in
-    let m = c.mask_len-len.result in
-    let ys = take (length rest - 1) (drop 1 rest) in
-    let whole : ys ≡ drop 1 rest = take_all (length rest - 1) (drop 1 rest) (omega (arith, length-drop 1 rest)) in
-    let bytes = IsBytes-drop m (drop 1 rest) (IsBytes-drop 1 rest (λ i. omega (arith, c.type_inv.rest i))) in
-    let small = front-small m c.low_first-self-2.result (drop m (drop 1 rest)) c.split_at-2.result.0.now bytes
-    (c.split_at-2.ensures.front ∙ ap (take m) (c.split_at.ensures.back ∙ ap (drop m) whole)) c.split_at-2.ensures.front_len c.low_first-self-2.ensures in
-    joins m c.low_first-self-2.result c.if-len-le8.true small
+    let m-is = c.mask_len-len.ensures ∙ ap mask_len c.channels-channels.ensures in
+    let whole : take (length rest - 3) (drop 3 rest) ≡ drop 3 rest = take_all (length rest - 3) (drop 3 rest) (omega (arith, length-drop 3 rest)) in
+    record {
+      tag = c.requires.row;
+      masks = read-by (length c.args.self.now.sizes.items) c.mask_len-len.result _ _ (drop 3 rest) (take (length rest - 3) (drop 3 rest))
+          c.split_at.result.0.now c.split_at-2.result.0.now c.split_at-2.result.1.now m-is whole c.split_at.ensures.front
+          c.split_at-2.ensures.front c.split_at-2.ensures.back c.low_first-starts.ensures c.low_first-self.ensures;
+    }
 
 pub invariant_of-self : goal.invariant_of-self
 invariant_of-self c =
     let h = c.args.self.now in
-    let rest = c.args.rest.now in
     let n = length h.sizes.items in
-    let m = c.mask_len-len.result in
-    let starts = c.low_first-self.result in
-    let ends = c.low_first-self-2.result in
-    let both = c.join-self.result in
-    let m-is : m ≡ mask_len n = c.mask_len-len.ensures ∙ ap (λ (xs : List ℕ). mask_len (length xs)) c.as_slice.ensures.value in
-    let head : c.head_len.result ≡ head_len n = c.head_len.ensures ∙ ap (λ (xs : List ℕ). head_len (length xs)) c.as_slice-2.ensures.value in
-    let contents : c.starts_len.result ≡ sizes_under starts h.sizes.items = c.starts_len.ensures ∙ ap (sizes_under starts) c.as_slice-3.ensures.value in
-    let ys = take (length rest - 1) (drop 1 rest) in
-    let whole : ys ≡ drop 1 rest = take_all (length rest - 1) (drop 1 rest) (omega (arith, length-drop 1 rest)) in
-    let small = front-small m starts (drop 1 rest) c.split_at.result.0.now (IsBytes-drop 1 rest (λ i. omega (arith, c.type_inv.rest i)))
-    (c.split_at.ensures.front ∙ ap (take m) whole) c.split_at.ensures.front_len c.low_first-self.ensures in
+    let m-is = c.mask_len-len.ensures ∙ ap mask_len c.channels-channels.ensures in
+    let head = c.head_len.ensures ∙ ap head_len c.channels-channels.ensures in
+    let contents = c.starts_len.ensures ∙ ap (sizes_under c.low_first-starts.result) c.as_slice.ensures.value in
+    let masks = c.split_at.result.0.now in
     record {
       some = h.some;
       few = h.few;
       small = h.small;
       len_is = ap (λ k. k + c.starts_len.result) head ∙ ap (λ k. head_len n + k) contents;
-      word = λ (l : n ≤ 64). subst (λ k. IsWord k starts ends h.under both) m-is
-          (joined-word m starts ends h.under both ((h.word l).under_is ∙ ap (λ k. 2 ^ (16 * k) - 1) (sym m-is)) small c.join-self.ensures);
+      masks_are = λ _. read-by n c.mask_len-len.result _ _ c.padded-self.result c.padded-self.result masks
+          c.split_at-2.result.0.now c.split_at-2.result.1.now m-is refl
+          (sym c.padded-self.ensures ∙ ap (λ k. take k c.padded-self.result) c.split_at.ensures.front_len)
+          c.split_at-2.ensures.front c.split_at-2.ensures.back c.low_first-starts.ensures c.low_first-self.ensures;
     }
