@@ -16,9 +16,9 @@ use Rattle.chan_map.specs.trace_model.declared.packet.Packet.{Packet}
 use Rattle.chan_map.specs.trace_model.declared.row.Row.{Row}
 use Rattle.chan_map.specs.trace_model.Clock.{clock}
 use Rattle.chan_map.specs.trace_model.Counting.{IsNth}
-use Rattle.chan_map.specs.trace_model.Packet.{does, count, IsPacket}
+use Rattle.chan_map.specs.trace_model.Packet.{does, count}
 use Rattle.chan_map.specs.trace_model.Recording.{shown}
-use Rattle.chan_map.specs.trace_model.Trace.{IsWellFormed}
+use Rattle.chan_map.specs.trace_model.Trace.{Alternates}
 use Rattle.chan_map.proofs.trace_model_lemmas.CountingLemmas.{count-suc, count-suc_yes, count-suc_no}
 use Rattle.chan_map.proofs.trace_model_lemmas.FlightLemmas.{balanced}
 use Rattle.chan_map.proofs.trace_model_lemmas.RowLaws.{counted}
@@ -30,6 +30,7 @@ use Rattle.run_model.specs.Held.{recorded_next, same_kind, same_event, is_held, 
 use Rattle.run_model.specs.Laws.{IsShown, IsFirstOpen, IsIn, IsFree, NoCircle}
 use Rattle.run_model.specs.Replay.{done, HasEnded}
 use Rattle.run_model.proofs.EventPlaces.{awaits-none, nth-place}
+use Rattle.run_model.proofs.OneEpoch.{none-reset, one-epoch}
 use Rattle.run_model.proofs.PinLemmas.{all-at}
 use Rattle.run_model.proofs.ReplayLaws.{replay-keeps}
 use Rattle.run_model.proofs.RowParts.{channel-at}
@@ -281,8 +282,8 @@ bit-of : (b : Bool) → 0 < cond {A = ℕ} b 1 0 → b ≡ true
 bit-of true l = refl
 bit-of false l = absurd (omega arith)
 
-module _ (channels : List Channel) (packets : List Packet) (rows : List Row) (well : IsWellFormed
-    (record { channels = channels; packets = packets })) (p : ℕ) (first : IsFirstOpen (length channels) packets rows p)
+module _ (channels : List Channel) (packets : List Packet) (rows : List Row) (none : All (λ (q : Packet). q.reset ≡ false) packets)
+    (alternate : Alternates packets) (p : ℕ) (first : IsFirstOpen (length channels) packets rows p)
     (balance : (c : ℕ) → shown Start c rows ≡ shown End c rows + cond (flies rows c) 1 0) where
   start-in : (c : ℕ) (packet : Packet) → slice_get packets p ≡ Some packet → has packet.starts c ≡ true → flies rows c ≡ false
       → shown Start c rows ≡ count Start c (take p packets) → IsIn packets p (next_event rows c)
@@ -304,7 +305,7 @@ module _ (channels : List Channel) (packets : List Packet) (rows : List Row) (we
       let w = first.within in
       let s = enough (length channels) packets rows p (omega arith) first.before Start c l in
       let e = enough (length channels) packets rows p (omega arith) first.before End c l in
-      let even = well.alternate.starts p c packet at starts in
+      let even = alternate.starts p c packet at starts in
       let b = balance c in
       start-in c packet at starts
       (⊎_elim (λ (t : flies rows c ≡ true). (let one = in-flight-bit (flies rows c) t in absurd (omega (arith, s, e, even, b, late, one))))
@@ -319,18 +320,18 @@ module _ (channels : List Channel) (packets : List Packet) (rows : List Row) (we
       (λ (t : flies rows c ≡ true). end-in c packet at ends t (omega (arith, e, late)))
       (λ (f : flies rows c ≡ false).
       (let none = flying-flag (flies rows c) (ap not f) in
-      let odd = well.alternate.ends p c packet at ends in
-      let bal = balanced packets well.alternate c p in
+      let odd = alternate.ends p c packet at ends in
+      let bal = balanced packets alternate c p in
       let least = bal.least in
       let more = count-suc (does Start c) packets p packet at in
       let bit : 0 < cond {A = ℕ} (has packet.starts c) 1 0 = omega (arith, s, e, b, none, odd, least, more, late) in
       start-in c packet at (bit-of (has packet.starts c) bit) f (omega (arith, s, e, b, none, least, late))))
       (cases_Bool (flies rows c))
   late-in Reset c packet l at resets late =
-      absurd (false≢true (sym (all-at (IsPacket channels) packets p packet well.packets at).plain.1 ∙ resets))
+      absurd (false≢true (sym (all-at (λ (q : Packet). q.reset ≡ false) packets p packet none at) ∙ resets))
 
 pub no-circle : NoCircle
-no-circle d m packets rows well replay stable open-end = (
+no-circle d m packets rows well none replay stable open-end = (
   some-open (length m.channels) packets rows open-end,
   λ p first.
       (let late = ⊎_elim (λ (is : IsShown (length m.channels) packets rows p). absurd (first.unshown is))
@@ -341,7 +342,7 @@ no-circle d m packets rows well replay stable open-end = (
       subst (λ rs. shown Start c rs ≡ shown End c rs + cond (flies rows c) 1 0) (take_all (length rows) rows (omega arith))
       (counted m.channels rows replay.marked keeps (length rows) (omega arith) c) in
       waiting m.channels packets rows p first late.is.c late.is.within
-      (late-in m.channels packets rows well p first balance late.is.kind late.is.c late.packet late.is.within late.at
-      late.is.has-it
-      late.is.late)),
+      (late-in m.channels packets rows (none-reset packets none)
+      (one-epoch (record { channels = m.channels; packets = packets }) well none) p first balance late.is.kind late.is.c late.packet
+      late.is.within late.at late.is.has-it late.is.late)),
 )

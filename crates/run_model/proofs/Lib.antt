@@ -3,6 +3,7 @@ pub mod PinLemmas
 pub mod RowParts
 pub mod PlayedLaws
 pub mod Stays
+pub mod OneEpoch
 pub mod RunLaws
 pub mod EventPlaces
 pub mod ReplayLaws

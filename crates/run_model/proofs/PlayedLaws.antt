@@ -86,11 +86,9 @@ pub row-before_take : (rows : List Row) (k t : ℕ) → t ≤ k → row_before (
 row-before_take rows k zero l = refl
 row-before_take rows k (suc t) l = slice_get-take k rows t (omega arith)
 
-pub rows-front : (channels : List Channel) (rows : List Row) (k : ℕ) → AreRows channels rows → AreRows channels (take k rows)
-rows-front channels rows k are t row at =
-    let l : t < k = within rows k t row at in
-    let there : slice_get rows t ≡ Some row = sym (slice_get-take k rows t l) ∙ at in
-    ((are t row there).0, subst (λ o. IsMarked o row) (sym (row-before_take rows k t (omega arith))) (are t row there).1)
+-- a row of a front is one of the rows
+pub front-at : (rows : List Row) (k t : ℕ) (row : Row) → slice_get (take k rows) t ≡ Some row → (t < k) × (slice_get rows t ≡ Some row)
+front-at rows k t row at = let l = within rows k t row at in (l, sym (slice_get-take k rows t l) ∙ at)
   where
     within : (rows : List Row) (k t : ℕ) (row : Row) → slice_get (take k rows) t ≡ Some row → t < k
     within [] zero t row at = absurd (cc)
@@ -98,6 +96,12 @@ rows-front channels rows k are t row at =
     within (x ∷ xs) zero t row at = absurd (cc)
     within (x ∷ xs) (suc k) zero row at = omega arith
     within (x ∷ xs) (suc k) (suc t) row at = let l = within xs k t row at in omega arith
+
+pub rows-front : (channels : List Channel) (rows : List Row) (k : ℕ) → AreRows channels rows → AreRows channels (take k rows)
+rows-front channels rows k are t row at =
+    let f = front-at rows k t row at in
+    let l = f.0 in
+    ((are t row f.1).0, subst (λ o. IsMarked o row) (sym (row-before_take rows k t (omega (arith, l)))) (are t row f.1).1)
 
 -- ---- at most one list
 -- the rule fixes the environment's part of a row, its gates and whether a reset came

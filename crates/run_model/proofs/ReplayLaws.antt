@@ -238,7 +238,8 @@ module _ (d : Design) (m : Map) (packets : List Packet) (rows : List Row) (repla
   replay-keeps stable = keeps-from m.channels rows replay.marked stable inward gates-up
 
 pub replay-keeps_contents : ReplayKeepsContents
-replay-keeps_contents d m packets rows replay stable = kept m.channels rows replay.marked (replay-keeps d m packets rows replay stable)
+replay-keeps_contents d m packets rows replay stable = kept m.channels rows (λ t row at. (replay.ruled t row at).2) replay.marked
+    (replay-keeps d m packets rows replay stable)
 
 -- ---- from a packet to its row
 pub record FromRow (channels : List Channel) (rows : List Row) (p : ℕ) (packet : Packet) : Type 0 where

@@ -9,19 +9,19 @@ use Rattle.chan_map.specs.trace_model.declared.channel.Dir.TheVariants.{Inward, 
 use Rattle.chan_map.specs.trace_model.declared.row.Offers.{Offers}
 use Rattle.chan_map.specs.trace_model.declared.row.Row.{Row}
 use Rattle.chan_map.specs.trace_model.Row.{content_at, completes, is_in_flight, row_before, AreRows}
-use Rattle.chan_map.specs.trace_model.Recording.{trace_of}
-use Rattle.chan_map.specs.trace_model.Trace.{IsWellFormed}
 use Rattle.chan_map.proofs.trace_model_lemmas.CountingLemmas.{take-suc_get}
 use Rattle.net_design.specs.declared.design.Design.{Design}
 use Rattle.chan_map.specs.declared.pins.Map.{Map}
-use Rattle.run_model.specs.Laws.{IsReady, GatesOf, OffersFit, OneOfLength, OffersStay, GatesStay, ContentsStay, RunKeepsContents}
+use Rattle.run_model.specs.Laws.{IsReady, GatesOf, OffersFit, OneOfLength, OffersStay, GatesStay, ContentsStay, HasWellFormedTrace}
+use Rattle.run_model.specs.Laws.{RunKeepsContents}
 use Rattle.run_model.specs.Offers.{CarriesOn, Carries, offered_content}
 use Rattle.run_model.specs.Played.{AreStable}
 use Rattle.run_model.specs.Run.{IsRun, IsRunRow}
 use Rattle.run_model.proofs.PlayedLaws.{Determines, Allows, one-list_of_rows, some-list, rows-front}
 use Rattle.run_model.proofs.RowParts.{carried}
 use Rattle.run_model.proofs.Stays.{KeepsContents, keeps-from, keeps-in-flight, contents-stay, flight-parts}
-use Rattle.chan_map.proofs.trace_model_lemmas.RowLaws.{well-formed}
+use Rattle.run_model.proofs.OneEpoch.{NoneFresh, one-stretch}
+use Rattle.chan_map.proofs.trace_model_lemmas.TraceLaws.{rows-well_formed}
 
 -- ---- exactly one list of n rows
 -- after these rows exactly one set of gates may be up, and it is of these channels
@@ -115,13 +115,18 @@ plan-stays channels plan stays = record {
   stay = λ before row next are g n c up closed. ap (λ k. has k c) n ∙ stays before row are g c up closed;
 }
 
-pub kept : (channels : List Channel) (rows : List Row) → AreRows channels rows → KeepsContents channels rows
-    → ContentsStay channels rows × IsWellFormed (trace_of channels rows)
-kept channels rows are keeps = (
+pub kept : (channels : List Channel) (rows : List Row) → NoneFresh rows → AreRows channels rows → KeepsContents channels rows
+    → ContentsStay channels rows × HasWellFormedTrace channels rows
+kept channels rows none are keeps = (
   contents-stay channels rows are keeps,
-  well-formed channels rows are (keeps-in-flight channels rows keeps),
+  λ few. rows-well_formed channels rows few (one-stretch channels rows none are (keeps-in-flight channels rows keeps)),
 )
 
+pub run-none_fresh : (d : Design) (m : Map) (offers : List Row → Offers) (gates : List Row → ℕ → Type 0) (rows : List Row)
+    → IsRun d m offers gates rows → NoneFresh rows
+run-none_fresh d m offers gates rows run t row at = (run.ruled t row at).2
+
 pub run-keeps_contents : RunKeepsContents
-run-keeps_contents d m offers plan rows stay gates run stable =
-    kept m.channels rows run.marked (run-keeps d m offers (GatesOf plan) rows stay (plan-stays m.channels plan gates) run stable)
+run-keeps_contents d m offers plan rows stay gates run stable = kept m.channels rows
+    (run-none_fresh d m offers (GatesOf plan) rows run) run.marked
+    (run-keeps d m offers (GatesOf plan) rows stay (plan-stays m.channels plan gates) run stable)

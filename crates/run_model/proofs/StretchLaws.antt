@@ -159,7 +159,7 @@ covered channels packets rows ended =
     awaits-none channels (done rows) (λ c. count End c packets) 0 (λ i l. ended End (0 + i) (omega (arith, l)))
 
 pub no-circle_in_stretches : NoCircleInStretches
-no-circle_in_stretches d m epochs ss are e packets rows last well stable going =
+no-circle_in_stretches d m epochs ss are e packets rows last well none stable going =
     let r = of-epoch d m epochs ss are e rows last.here in
     let replay : IsReplay d m packets rows =
     subst (λ ps. IsReplay d m ps rows) (same_Some r.packets packets (sym r.at ∙ last.epoch)) r.replay in
@@ -176,5 +176,5 @@ no-circle_in_stretches d m epochs ss are e packets rows last well stable going =
       λ p first. absurd (none-open (length m.channels) packets rows ended p first),
     ))
     (λ (goes : HasEnded (length m.channels) packets rows → ⊥).
-    (let free = no-circle d m packets rows well replay stable goes in (inl free.0, free.1)))
+    (let free = no-circle d m packets rows well none replay stable goes in (inl free.0, free.1)))
     (ended-or-not (length m.channels) packets rows)

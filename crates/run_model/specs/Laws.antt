@@ -9,10 +9,12 @@ use Rattle.chan_map.specs.trace_model.declared.event.Event.{Event}
 use Rattle.chan_map.specs.trace_model.declared.event.Kind.{Kind}
 use Rattle.chan_map.specs.trace_model.declared.event.Kind.TheVariants.{Start, End}
 use Rattle.chan_map.specs.trace_model.declared.packet.Packet.{Packet}
+use Rattle.chan_map.specs.trace_model.declared.packet.TheConstants.{GAP_LIMIT}
 use Rattle.chan_map.specs.trace_model.declared.row.Offers.{Offers}
 use Rattle.chan_map.specs.trace_model.declared.row.Row.{Row}
 use Rattle.chan_map.specs.trace_model.Clock.{clock, Covers}
 use Rattle.chan_map.specs.trace_model.Counting.{IsNth}
+use Rattle.chan_map.specs.trace_model.Epoch.{resets}
 use Rattle.chan_map.specs.trace_model.Packet.{does, count, content_of, IsPacket}
 use Rattle.chan_map.specs.trace_model.Recording.{packets_of, recorded, shown, trace_of, IsTransaction}
 use Rattle.chan_map.specs.trace_model.Row.{content_at, completes, AreOffers, AreRows}
@@ -96,14 +98,18 @@ abbrev pub ContentsStay : List Channel → List Row → Type 0
 ContentsStay channels rows = (c j t u : ℕ) (x : IsTransaction rows c j t u)
     → content_at channels x.last.contents c ≡ content_at channels x.first.contents c
 
+-- the trace of few enough rows for each gap to fit is well-formed
+abbrev pub HasWellFormedTrace : List Channel → List Row → Type 0
+HasWellFormedTrace channels rows = length rows < GAP_LIMIT → IsWellFormed (trace_of channels rows)
+
 abbrev pub RunKeepsContents : Type 0
 RunKeepsContents = (d : Design) (m : Map) (offers : List Row → Offers) (plan : List Row → ℕ) (rows : List Row)
     → OffersStay m.channels offers → GatesStay m.channels plan → IsRun d m offers (GatesOf plan) rows → AreStable m.channels rows
-    → ContentsStay m.channels rows × IsWellFormed (trace_of m.channels rows)
+    → ContentsStay m.channels rows × HasWellFormedTrace m.channels rows
 
 abbrev pub ReplayKeepsContents : Type 0
 ReplayKeepsContents = (d : Design) (m : Map) (packets : List Packet) (rows : List Row) → IsReplay d m packets rows
-    → AreStable m.channels rows → ContentsStay m.channels rows × IsWellFormed (trace_of m.channels rows)
+    → AreStable m.channels rows → ContentsStay m.channels rows × HasWellFormedTrace m.channels rows
 
 -- ---- order in the output
 -- the events that the replayers control: the starts of an inward channel, the completions of an outward one
@@ -157,9 +163,10 @@ pub record IsFree (channels : List Channel) (packets : List Packet) (rows : List
   pub is_in : IsIn packets p event
   pub waiting : Contains (waits channels packets rows) event
 
+-- of a well-formed trace without resets, as each epoch is one
 abbrev pub NoCircle : Type 0
 NoCircle = (d : Design) (m : Map) (packets : List Packet) (rows : List Row)
-    → IsWellFormed (record { channels = m.channels; packets = packets })
+    → IsWellFormed (record { channels = m.channels; packets = packets }) → resets packets ≡ 0
     → IsReplay d m packets rows → AreStable m.channels rows → ¬ HasEnded (length m.channels) packets rows
     → ((p : ℕ) × IsFirstOpen (length m.channels) packets rows p)
     × ((p : ℕ) → IsFirstOpen (length m.channels) packets rows p → IsFree m.channels packets rows p)

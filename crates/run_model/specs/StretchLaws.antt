@@ -5,14 +5,15 @@ use Rattle.chan_map.specs.trace_model.declared.event.Kind.TheVariants.{End}
 use Rattle.chan_map.specs.trace_model.declared.packet.Packet.{Packet}
 use Rattle.chan_map.specs.trace_model.declared.row.Offers.{Offers}
 use Rattle.chan_map.specs.trace_model.declared.row.Row.{Row}
+use Rattle.chan_map.specs.trace_model.Epoch.{resets}
 use Rattle.chan_map.specs.trace_model.Packet.{count}
-use Rattle.chan_map.specs.trace_model.Recording.{packets_of, trace_of}
+use Rattle.chan_map.specs.trace_model.Recording.{packets_of}
 use Rattle.chan_map.specs.trace_model.Row.{IsOver}
 use Rattle.chan_map.specs.trace_model.Trace.{IsWellFormed}
 use Rattle.net_design.specs.declared.design.Design.{Design}
 use Rattle.chan_map.specs.declared.pins.Map.{Map}
 use Rattle.run_model.specs.Held.{awaits}
-use Rattle.run_model.specs.Laws.{AreInOrder, ContentsFit, ContentsStay, GatesFit, GatesOf, GatesStay, IsFirstOpen, IsFree, IsReady}
+use Rattle.run_model.specs.Laws.{AreInOrder, ContentsFit, ContentsStay, GatesFit, GatesOf, GatesStay, HasWellFormedTrace, IsFirstOpen, IsFree, IsReady}
 use Rattle.run_model.specs.Laws.{OffersFit, OffersStay}
 use Rattle.run_model.specs.Played.{AreStable}
 use Rattle.run_model.specs.Replay.{HasEnded, done}
@@ -46,7 +47,7 @@ OneReplayInStretches = (d : Design) (m : Map) → IsReady d m
 -- ---- contents stay, in each stretch that is stable
 abbrev pub KeepContents : List Channel → List (List Row) → Type 0
 KeepContents channels stretches = (k : ℕ) (rows : List Row) → slice_get stretches k ≡ Some rows → AreStable channels rows
-    → ContentsStay channels rows × IsWellFormed (trace_of channels rows)
+    → ContentsStay channels rows × HasWellFormedTrace channels rows
 
 abbrev pub RunStretchesKeepContents : Type 0
 RunStretchesKeepContents = (d : Design) (m : Map)
@@ -81,7 +82,7 @@ pub record IsResetFree (channels : List Channel) (epochs : List (List Packet)) (
 abbrev pub NoCircleInStretches : Type 0
 NoCircleInStretches = (d : Design) (m : Map) (epochs : List (List Packet)) (stretches : List (List Row)) → AreReplayed d m epochs stretches
     → (e : ℕ) (packets : List Packet) (rows : List Row) → IsLastEpoch epochs stretches e packets rows
-    → IsWellFormed (record { channels = m.channels; packets = packets }) → AreStable m.channels rows
+    → IsWellFormed (record { channels = m.channels; packets = packets }) → resets packets ≡ 0 → AreStable m.channels rows
     → ¬ ((suc e ≡ length epochs) × HasEnded (length m.channels) packets rows)
     → (((p : ℕ) × IsFirstOpen (length m.channels) packets rows p) ⊎ IsResetFree m.channels epochs e packets rows)
     × ((p : ℕ) → IsFirstOpen (length m.channels) packets rows p → IsFree m.channels packets rows p)

@@ -18,8 +18,8 @@ pub fn one_replay()
     ensures { OneReplay }
 {}
 
-/// In a stable run each transaction completes with the content of its start, and the trace is well-formed, where offers stay
-/// until they are taken and gates go down only at completions.
+/// In a stable run each transaction completes with the content of its start, and the trace of fewer than 65,536 rows is
+/// well-formed, where offers stay until they are taken and gates go down only at completions.
 pub fn run_keeps_contents()
     ensures { RunKeepsContents }
 {}
@@ -35,7 +35,7 @@ pub fn order_in_the_output()
     ensures { OrderInTheOutput }
 {}
 
-/// Where a stable replay hasn't ended, no event of the first packet that it hasn't shown whole is held back, and some event of
+/// Where a stable replay of a trace without resets hasn't ended, no event of the first packet that it hasn't shown whole is held back, and some event of
 /// it is waited for: the replayers never wait for one another in a circle.
 pub fn no_circle()
     ensures { NoCircle }

@@ -15,8 +15,8 @@ pub fn one_replay_in_stretches()
     ensures { OneReplayInStretches }
 {}
 
-/// In each stable stretch of a run each transaction completes with the content of its start, and the trace is well-formed, where
-/// offers stay until they are taken and gates go down only at completions.
+/// In each stable stretch of a run each transaction completes with the content of its start, and the trace of fewer than 65,536
+/// rows is well-formed, where offers stay until they are taken and gates go down only at completions.
 pub fn run_stretches_keep_contents()
     ensures { RunStretchesKeepContents }
 {}

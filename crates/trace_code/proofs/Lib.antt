@@ -13,6 +13,7 @@ pub mod PacketLaws
 pub mod Overwriting
 pub mod Picking
 pub mod RowBytes
+pub mod RowsBytes
 pub mod Tallying
 pub mod Totals
 pub mod Masks

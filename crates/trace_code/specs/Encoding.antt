@@ -16,7 +16,7 @@ use Rattle.vec_clock.specs.trace_model.declared.trace.Trace.{Trace}
 use Rattle.vec_clock.specs.trace_model.Channel.{byte_count, IsTable}
 use Rattle.vec_clock.specs.trace_model.Length.{mask_len}
 use Rattle.vec_clock.specs.trace_model.Packet.{widths_under}
-use Rattle.vec_clock.specs.trace_model.Recording.{after_gap, has_event, packet_of}
+use Rattle.vec_clock.specs.trace_model.Recording.{after_gap, has_event, packet_of, packets_from}
 use Rattle.vec_clock.specs.trace_model.Trace.{IsWellFormed}
 
 abbrev pub magic : List ℕ
@@ -59,6 +59,10 @@ packet_bytes channels p = if p.reset then 2 ∷ gap_bytes p.gap
 -- the bytes of the packet of a row behind this gap, of which there are none where it has no event
 abbrev pub row_bytes : List Channel → ℕ → Row → List ℕ
 row_bytes channels gap row = if has_event row then packet_bytes channels (after_gap gap (packet_of channels row)) else []
+
+-- the bytes of the packets of all rows
+abbrev pub rows_bytes : List Channel → List Row → List ℕ
+rows_bytes channels rows = flat_map (packet_bytes channels) (packets_from channels 0 0 rows)
 
 abbrev pub end_mark : ℕ → List ℕ
 end_mark packets = 0 ∷ bytes_high_first 4 packets

@@ -84,6 +84,6 @@ findings_on channels a b c = different channels c a b
     ++ (only_one Start c a b ++ (only_one End c a b
     ++ (early_ones (length channels) Start c a b ++ early_ones (length channels) End c a b)))
 
--- the findings of a trace a and a trace b over the same channels, channel by channel
+-- the findings of a trace a and a trace b over the same channels, channel by channel; resets have no events, and gaps aren't compared
 abbrev pub findings : Trace → Trace → List Finding
 findings a b = flat_map (findings_on a.channels a.packets b.packets) (range_with_len 0 (length a.channels))
