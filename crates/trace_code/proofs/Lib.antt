@@ -1,4 +1,5 @@
 pub mod Examples
+pub mod NoReset
 pub mod Loop
 pub mod Table
 pub mod Names

@@ -1,4 +1,5 @@
 pub mod Encoding
+pub mod NoReset
 pub mod Decoding
 pub mod Salvage
 pub mod Reading
