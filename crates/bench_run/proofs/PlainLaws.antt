@@ -9,7 +9,8 @@ use Rattle.run_stage.specs.run_model.Played.{all_up}
 use Rattle.run_stage.specs.run_model.Run.{AllUp, IsTheRun}
 use Rattle.run_stage.proofs.run_model_lemmas.Ends.{the-run}
 use Rattle.run_stage.proofs.run_model_lemmas.ReplayLaws.{all-up-below}
-use Rattle.run_stage.proofs.run_model_lemmas.RunLaws.{kept, one-of_length, run-keeps, GatesAreFixed, StayUp}
+use Rattle.run_stage.proofs.run_model_lemmas.RunLaws.{one-of_length, run-keeps, GatesAreFixed, StayUp}
+use Rattle.run_stage.proofs.run_model_lemmas.Stays.{contents-stay}
 use Rattle.run_stage.proofs.run_model_lemmas.Stops.{one-that_ends}
 use Rattle.net_design.specs.declared.design.Design.{Design}
 use Rattle.run_stage.specs.chan_map.declared.pins.Map.{Map}
@@ -79,5 +80,5 @@ pub plain-keeps : PlainRunKeepsContents
 plain-keeps d m offer lasting n run is =
     let offers = offers_after m.channels offer in
     let parts = the-run d m offers (AllUp m.channels) n run.rows (channel_of run.unstable) is.played in
-    (kept m.channels run.rows parts.0.marked (run-keeps d m offers (AllUp m.channels) run.rows (offers-stay m.channels offer lasting)
-    (all-stay m.channels) parts.0 parts.1)).0
+    contents-stay m.channels run.rows parts.0.marked (run-keeps d m offers (AllUp m.channels) run.rows (offers-stay m.channels offer lasting)
+    (all-stay m.channels) parts.0 parts.1)

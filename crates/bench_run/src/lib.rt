@@ -13,5 +13,6 @@ pub use env_script::trace_model;
 pub use laws::{one_plain_run, plain_run_keeps_contents};
 pub use lent::Lent;
 pub use plain::{PlainRun, Spot, run_plain};
+pub use player::copied_row;
 pub use run_stage::chan_monitor;
 pub use run_stage::chan_monitor::{chan_map, vidi_bits};

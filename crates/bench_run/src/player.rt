@@ -33,7 +33,7 @@ pub(crate) struct PlainPlayer<'m, 'e, 'c, E: Env> {
 }
 
 /// A copy of a row.
-fn copied(alloc: Global, row: &Row) -> Result<Row, Memory>
+pub fn copied_row(alloc: Global, row: &Row) -> Result<Row, Memory>
     ensures { IfOk result (λ copy. copy ≡ row.now) }
 {
     let contents = Vec::from_slice(alloc, row.contents.as_slice())?;
@@ -99,7 +99,7 @@ impl<E: Env> Player<Gated> for PlainPlayer<'_, '_, '_, E> {
 
     fn keep(&mut self, _cycle: u32, last: &Row) -> Result<(), Memory> {
         self.env.commit(last);
-        let row = copied(self.cells.alloc, last)?;
+        let row = copied_row(self.cells.alloc, last)?;
         self.cells.rows.push(row)?;
         gather(self.env, &self.map.channels, &mut self.cells.given.offers);
         Ok(())

@@ -52,7 +52,7 @@ abbrev pub packet_lines : List Channel → List Packet → ℕ × Packet → Lis
 packet_lines channels packets x = start_lines channels x.0 x.1 (clock_text (length channels) packets x.0)
     ++ end_lines channels x.0 x.1 (clock_text (length channels) packets x.0)
 
--- what `dump` prints of a trace
+-- what `dump` prints of a trace: gaps have no line, and neither has a reset, which has no events and is counted as a packet
 abbrev pub dump_text : Trace → List ℕ
 dump_text t = channel_lines 0 t.channels ++ (flat_map (packet_lines t.channels t.packets) (enumerate_from 0 t.packets)
     ++ packets_line (length t.packets))

@@ -14,6 +14,7 @@ mod trace_text;
 pub use reason::{Lack, Reason, Word, read_fault_line, reason_line};
 pub use report::report_lines;
 pub use row_lines::{RunLines, rows_text};
+pub use run_model;
 pub use run_model::vidi_lines;
 pub use short::short_lines;
 pub use text::{put, put_number};

@@ -2,9 +2,8 @@ use Rattle.std.proofs.Common.{◌≡◌, ◌⊎◌, inl, inr, None, refl, ap, sy
 use Rattle.std.proofs.lemmas.Option.{same_Some}
 use Rattle.std.proofs.lemmas.Result.{IfOk-weaker}
 use Rattle.run_stage.proofs.chan_monitor_lemmas.vidi_bits_lemmas.Results.{on_err}
-use Rattle.run_stage.specs.chan_map.declared.pins.Map.{Map}
 use Rattle.run_stage.specs.chan_monitor.Around.{IsAround}
-use Rattle.bench_run.specs.Plain.{IsPlainRun, StandsWithin}
+use Rattle.bench_run.specs.Plain.{StandsWithin}
 use Rattle.bench_run.proofs.Growing.{if-error, stands-behind}
 use Rattle.bench_run.proofs.plain.run_plain.Goals as goal
 

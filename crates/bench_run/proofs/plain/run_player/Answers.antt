@@ -1,4 +1,4 @@
-use Rattle.std.proofs.Common.{◌≡◌, ◌++◌, Option, length, refl, ap, sym, subst, ◌∙◌}
+use Rattle.std.proofs.Common.{refl, sym, subst, ◌∙◌}
 use Rattle.std.proofs.lemmas.Result.{IfOk-weaker}
 use Rattle.bench_run.proofs.Growing.{goes-on, if-err, of-either, plain-as, stands-within}
 use Rattle.bench_run.proofs.plain.run_player.Goals as goal

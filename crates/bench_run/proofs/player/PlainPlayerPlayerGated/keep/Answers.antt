@@ -1,8 +1,7 @@
-use Rattle.std.proofs.Common.{◌≡◌, ◌≤◌, ◌++◌, ◌∷◌, [], List, length, ap, sym, subst, ◌∙◌, arith}
+use Rattle.std.proofs.Common.{◌++◌, ◌∷◌, [], List, length, ap, sym, subst, ◌∙◌, arith}
 use Rattle.env_script.specs.trace_model.declared.channel.Channel.{Channel}
 use Rattle.env_script.specs.trace_model.declared.row.Row.{Row}
-use Rattle.env_script.specs.trace_model.Row.{all_widths, AreOffers, IsOver}
-use Rattle.env_script.proofs.trace_model_lemmas.ContentsLemmas.{fit-length}
+use Rattle.env_script.specs.trace_model.Row.{IsOver}
 use Rattle.run_stage.specs.chan_map.declared.pins.Map.{Map}
 use Rattle.env_script.specs.Offered.{offers_on}
 use Rattle.run_stage.proofs.Turning.{over-last}
