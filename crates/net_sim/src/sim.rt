@@ -125,8 +125,9 @@ impl Sim {
         })
     }
 
-    /// The number of net n of the design in what was settled last; 0 of a net that isn't there.
+    /// The number of net n of the design in what was settled last.
     pub fn number(&self, n: usize) -> u128
+        requires { n < length self.now.design.nets }
         ensures { result ≡ slice_index (shown_in self.now.design (through self.now.places self.now.slots)).nets n }
     {
         number_seen(&self.places, &self.slots, n)
