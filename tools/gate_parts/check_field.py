@@ -151,9 +151,23 @@ def check_capture_length(checker):
                     "--from, or make a trace with --trace, which has no limit", "out")
     checker.run(*words, "--trace", "long.trace")
     with open(os.path.join(checker.folder, "long.trace"), "rb") as file:
-        # A header of 14 bytes, packets of a one and two masks, the end mark with their number
+        # A header of 13 bytes, packets of a one, a gap of 0 and two masks, the end mark with their number
         checker.case("capture --trace of 50,002 cycles", file.read().hex(),
-                     "564944495452433101" + "00" + "0161" + "00" + "010101" * 50002 + "00" + "0000c352")
+                     "564944495452433201" + "00" + "0161" + "00" + "0100000101" * 50002 + "00" + "0000c352")
+    check_capture_pauses(checker, head)
+
+
+def check_capture_pauses(checker, head):
+    """Waves in which a word passes in cycle 2, in cycle 65,538 behind the longest gap, and in cycle 131,075 behind one that is longer."""
+    levels = {2: "1v\n", 3: "0v\n", 65538: "1v\n", 65539: "0v\n", 131075: "1v\n", 131076: "0v\n"}
+    steps = (f"#{10 * at + 5}\n1c\n#{10 * at + 10}\n0c\n{levels.get(at + 1, '')}" for at in range(131077))
+    checker.write("rare.vcd", head + "#0\n0c\n0v\n1r\n" + "".join(steps))
+    said, status = checker.run("capture", "rare.vcd", "top", "long.map", "--trace", "rare.trace")
+    checker.case("capture of a long pause", (said, status),
+                 ("capture: nothing in 65536 cycles before packet 2; the trace has 65535 of them, the most\n", 0))
+    with open(os.path.join(checker.folder, "rare.trace"), "rb") as file:
+        checker.case("capture --trace of a long pause", file.read().hex(),
+                     "564944495452433201" + "00" + "0161" + "00" + "0100020101" + "01ffff0101" * 2 + "00" + "00000003")
 
 
 def check_capture_run(checker):
@@ -248,7 +262,7 @@ def check_explain_order(checker):
     """The first place in time stands first, then the others by channel, and what only comes early at the end."""
     table = [trace_kit.Table("a", True, [8]), trace_kit.Table("b", False, [8])]
     for name, packets in (("side_a", SIDE_A), ("side_b", SIDE_B)):
-        tool_kit.write(os.path.join(checker.folder, name), trace_kit.encoded(table, packets))
+        tool_kit.write(os.path.join(checker.folder, name), trace_kit.encoded(table, trace_kit.packets_of(packets)))
     said, status = checker.run("explain", "side_a", "side_b")
     checker.case("explain in time", (said, status), (tool_kit.text_of(os.path.join(CASES, "explain_time.out")), 7))
     said, status = checker.run("explain", "--most", "1", "side_a", "side_b")

@@ -8,6 +8,7 @@ import tempfile
 
 from vidi_tools import icarus_rows
 from make_kinds import random_design
+from make_kinds import wide
 from vidi_tools import same_transfers
 from vidi_tools import tool_kit
 from vidi_tools import trace_kit
@@ -17,7 +18,7 @@ EXAMPLES = os.path.abspath(tool_kit.EXAMPLES)
 # Registers that no reset sets: they begin at 0 in Vidi, and at x in Icarus.
 WITHOUT_RESET = {"pass": ["full"]}
 QUICK = "OPT_FAST=-O0 OPT_SLOW=-O0 OPT_GLOBAL=-O0"
-# Traces of version 2 of examples/pass, made by hand: a header, and packets of 01, a gap, two masks and contents.
+# Traces of examples/pass, made by hand: a header, and packets of 01, a gap, two masks and contents.
 PASS_HEADER = "5649444954524332" + "02" + "0001610108" + "0101620108"
 PASS_GAPS = PASS_HEADER + "010007010105" + "010000020005" + "0100020002" + "0000000003"
 PASS_TWO = PASS_HEADER + "010000010105" + "01000003020605" + "0100000001" + "010000020206" + "0000000004"
@@ -125,25 +126,23 @@ def widths_of(design, plan, folder):
 
 
 def recorded(files, stalls):
-    """The bytes of a recording in version 2, and the cycles of the script, by Icarus and this tool's own store."""
+    """The bytes of a recording, by Icarus and the definition of its gates."""
     _, design, plan, script, _ = files
     plan = icarus_rows.Map(plan)
     with tempfile.TemporaryDirectory() as folder:
         source = icarus_rows.Design(design, plan, folder)
         rows, _, _ = icarus_rows.play(plan, source, icarus_rows.lines(script), icarus_rows.Room(source.widths, stalls))
         ended(source)
-    table = [trace_kit.Table(name, inward, source.widths[name]) for name, inward, *_ in plan.channels]
-    cycles = [cycle for cycle, row in enumerate(rows) if row[0] or row[1]]
-    gaps = [cycle - before - 1 for before, cycle in zip([-1] + cycles, cycles)]
-    return trace_kit.encoded(table, [rows[cycle] for cycle in cycles], gaps)
+    trace = icarus_rows.trace_of(plan, source.widths, rows)
+    return trace_kit.encoded(trace.channels, trace.packets)
 
 
 def by_cycles(checker, play, name, files, stalls):
     """By cycles a recording behind a store comes again as it was, byte for byte with its gaps."""
     found, design, plan, *_ = files
     whole = recorded(files, stalls)
-    tool_kit.write(os.path.join(checker.folder, "whole.trace"), whole)
-    said, written = played(checker, play, ["whole.trace", plan, "--by", "cycles", *zeros(name)], found or design)
+    checker.case(f"the recording of {name} by the definition of its gates", bytes_of(checker, "trace").hex(), whole.hex())
+    said, written = played(checker, play, ["trace", plan, "--by", "cycles", *zeros(name)], found or design)
     checker.case(f"bench of {name} by cycles", (written.hex(), said.splitlines()[-1][:24]), (whole.hex(), "# all of the trace came,"))
 
 
@@ -177,15 +176,15 @@ def check_in_verilator(checker):
 
 
 def check_gaps(checker):
-    """Traces of version 2 that were made by hand come again byte for byte on the design that they are of."""
-    if not checker.has("traces of version 2 in Icarus", "iverilog"):
+    """Traces with gaps that were made by hand come again byte for byte on the design that they are of."""
+    if not checker.has("traces with gaps in Icarus", "iverilog"):
         return
     files = files_of("pass")
     for name, digits in (("gaps", PASS_GAPS), ("two sends", PASS_TWO)):
         tool_kit.write(os.path.join(checker.folder, "two.trace"), bytes.fromhex(digits))
         said, written = played(checker, in_icarus, ["two.trace", files[2], "--by", "cycles", *zeros("pass")], files[1])
-        checker.case(f"version 2, {name}", written.hex(), digits)
-    checker.case("version 2, the cycles of packets", trace_kit.read(bytes.fromhex(PASS_GAPS)).cycles(), [7, 8, 11])
+        checker.case(f"a trace with gaps, {name}", written.hex(), digits)
+    checker.case("the cycles of packets", trace_kit.read(bytes.fromhex(PASS_GAPS)).cycles(), [7, 8, 11])
 
 
 def check_replayers(checker):
@@ -202,25 +201,26 @@ def check_replayers(checker):
 
 
 def check_random(checker):
-    """Random designs with up to 26 channels and contents of up to 128 bits, by clocks in Icarus, which starts all state at 0."""
+    """Random designs with up to 26 channels and contents of up to 128 bits, and stages with 40 channels, by clocks in Icarus, which starts all state
+    at 0."""
     if not checker.has("benches of random designs", "iverilog"):
         return
-    for seed, count in ((9, 9), (26, 26), (1, None), (2, None), (3, None), (4, None), (5, None), (6, None)):
-        for file, text in random_design.made(seed, count).items():
+    made = [(f"random design {seed}", random_design.made(seed, count)) for seed, count in ((9, 9), (26, 26), *((seed, None) for seed in range(1, 7)))]
+    stages = {"design.v": wide.design(20), "map": wide.channels(20), "script": wide.script(20, 12), "stalls": "capacity 2000\ndrain 90 1\n"}
+    for name, texts in [*made, ("40 channels", stages)]:
+        for file, text in texts.items():
             checker.write(file, text)
-        checker.write("zero.v", "`define FOUND_MEMORY logic\n" + same_transfers.from_zero(random_design.made(seed, count)["design.v"]))
+        checker.write("zero.v", "`define FOUND_MEMORY logic\n" + same_transfers.from_zero(texts["design.v"]))
         _, status = checker.run("vidi", "record", "design.v", "map", "script", "stalls", "trace")
-        checker.case(f"the recording of random design {seed}", status in (0, 5), True)
-        by_clocks(checker, in_icarus, f"random design {seed}", ["zero.v", "design.v", "map"], "trace")
+        checker.case(f"the recording of {name}", status in (0, 5), True)
+        by_clocks(checker, in_icarus, name, ["zero.v", "design.v", "map"], "trace")
 
 
 WORDS = [  # the words of bench, and what it says
-    (["pass.trace", "pass.map", "-o", "b.v", "--by", "cycles"],
-     "pass.trace: a trace of version 1 doesn't say in which cycles its packets began: say --script with the script that it was made by, or play it "
-     "by packets or by clocks"),
+    (["old.trace", "pass.map", "-o", "b.v"], "old.trace: old trace: it begins with VIDITRC1, of version 1"),
     (["pass.trace", "other.map", "-o", "b.v"], "pass.trace: other channels: the map has in c with 1 contents, the trace in a with 1 contents"),
-    (["reset.trace", "pass.map", "-o", "b.v"], "reset.trace: packet 1 is a reset"),
-    (["pass.map", "pass.map", "-o", "b.v"], "pass.map: no trace: it doesn't begin with VIDITRC1 or VIDITRC2"),
+    (["reset.trace", "pass.map", "-o", "b.v"], "reset.trace: reset in packet 1, and a bench plays none"),
+    (["pass.map", "pass.map", "-o", "b.v"], "pass.map: no trace: it doesn't begin with VIDITRC2"),
     (["cut.trace", "pass.map", "-o", "b.v"], "cut.trace: the trace ends early"),
     (["pass.map", "-o", "b.v"], "wants a trace or --script SCRIPT"),
     (["--script", "pass.script", "pass.map", "-o", "b.v"],
@@ -247,6 +247,7 @@ def check_bench_words(checker):
     checker.run("vidi", "record", design, plan, script, stalls, "pass.trace")
     whole = bytes_of(checker, "pass.trace")
     tool_kit.write(os.path.join(checker.folder, "cut.trace"), whole[:-7])
+    tool_kit.write(os.path.join(checker.folder, "old.trace"), b"VIDITRC1" + whole[8:])
     tool_kit.write(os.path.join(checker.folder, "reset.trace"), bytes.fromhex(PASS_HEADER + "010000010105" + "020001" + "0000000002"))
     if checker.has("the words of bench", "iverilog"):
         for words, line in WORDS:
@@ -341,15 +342,16 @@ def check_planted(checker):
         checker.case(f"again of {name} by its trace", statuses(checker, plan, "seen.trace"), (bug, good))
         checker.case(f"again of {name} by its script", statuses(checker, plan, "seen.trace", "--script", "seen"), (0, 0 if is_broken else 1))
         checker.case(f"again of {name} by a line", statuses(checker, plan, "--script", "seen", "--until", "unstable"), (1 - is_broken, 1))
-        for way, words in (("packets", ["seen.trace", plan, "--by", "packets"]), ("cycles", ["--script", "seen", plan, "--files", source])):
+        for way, words in (("packets", ["seen.trace", plan, "--by", "packets"]), ("cycles", ["seen.trace", plan, "--by", "cycles"]),
+                           ("script", ["--script", "seen", plan, "--files", source])):
             checker.write("buggy.v", "`define BUG\n" + tool_kit.text_of(source))
             said, written = played(checker, in_icarus, words, "buggy.v")
-            checker.case(f"{name} by {way} in Icarus", written.hex(), trace.hex()) if way == "cycles" else \
+            checker.case(f"{name} by {way} in Icarus", written.hex(), trace.hex()) if way != "packets" else \
                 checker.case(f"{name} by {way} in Icarus", checker.run("vidi", "compare", "seen.trace", "bench.trace"), ("no divergence\n", 0))
             checker.case(f"{name} by {way} in Icarus, a broken handshake", "vidi: unstable m cycle" in said, is_broken)
             said, _ = played(checker, in_icarus, words, source)
             parts = "# differs" in said or "# short" in said
-            checker.case(f"{name} without its bug, by {way} in Icarus", parts, not is_broken and way == "packets")
+            checker.case(f"{name} without its bug, by {way} in Icarus", parts, not is_broken and way != "script")
         if checker.has(f"{name} from Verilator", "verilator", "g++", "make"):
             checker.case(f"{name} from Verilator is the same", bring_in(checker, name, "verilator"), (plan, script, trace))
 

@@ -13,7 +13,7 @@ from vidi_tools import trace_kit
 
 CASES = os.path.join(tool_kit.HERE, "cases")
 EXAMPLES = os.path.abspath(tool_kit.EXAMPLES)
-PASS_HEADER = "5649444954524331" + "02" + "0001610108" + "0101620108"
+PASS_HEADER = "5649444954524332" + "02" + "0001610108" + "0101620108"
 
 
 def watched(checker, simulator):
@@ -54,7 +54,7 @@ STREAM_BENCH = """module bench;
     if (cycle == 3) rst <= 0;
     if (!rst) begin
       if (!({gates})) shut <= shut + 1;
-      if ({some}) begin $write("packet"); {shows} $write("\\n"); end
+      $write("row"); {shows} $write("\\n");
       if (tvalid & tready) begin
         $write("beat ");
         for (at = 0; at < 256; at = at + 1) if (tkeep[at] === 1'b1) $write("%h", tdata[8*at +: 8]);
@@ -77,25 +77,25 @@ def stream_channel(at, inward, widths):
     both = [f".start_{at}(start_{at}), .stop_{at}(stop_{at}), .g_{at}(g_{at})"] + [f".{name}({name})" for name, _ in contents]
     shows = f'if (start_{at}) $write(" s{at}{":%h" * len(contents)}"{"".join(", " + name for name, _ in contents)}); '
     return {"nets": "\n".join(nets), "streams": ", ".join(both), "tops": ", ".join(both + [f".v_{at}(v_{at}), .r_{at}(r_{at})"]),
-            "shows": shows + f'if (stop_{at}) $write(" e{at}");', "gates": f"g_{at}", "some": f"start_{at} | stop_{at}",
+            "shows": shows + f'if (stop_{at}) $write(" e{at}");', "gates": f"g_{at}",
             "ends": f"{offered}_{at} <= 0;", "moves": " ".join(f"if (stop_{at}) {name} <= {name} * 5 + {at + 3};" for name, _ in contents if inward)}
 
 
 def stream_bench(plan, widths):
     """A bench of vidi_record_top and vidi_stream: sources that always offer, numbers that grow, a sink that takes one beat in five cycles. It prints
-    each packet as numbers, and the bytes of each beat."""
+    what starts and ends in each cycle, and the bytes of each beat."""
     parts = [stream_channel(at, inward, widths[name]) for at, (name, inward, *_) in enumerate(plan.channels)]
     held = [f".t_{port}({tied})" for port, tied in plan.ties.items()]
     held += [f".t_{plan.reset[0]}({'rst' if plan.reset[1] else '!rst'})"] if plan.reset else []
-    between = {"nets": "\n", "streams": ", ", "tops": ", ", "gates": " & ", "some": " | "}
+    between = {"nets": "\n", "streams": ", ", "tops": ", ", "gates": " & "}
     return STREAM_BENCH.format(held="".join(pin + ", " for pin in held),
                                **{key: between.get(key, " ").join(part[key] for part in parts) for key in parts[0]})
 
 
 def packets_of(text, plan):
     """The packets that the bench printed."""
-    found = []
-    for line in re.findall(r"^packet(.*)$", text, re.M):
+    rows = []
+    for line in re.findall(r"^row(.*)$", text, re.M):
         starts, ends = {}, []
         for event in line.split():
             at, *contents = event[1:].split(":")
@@ -103,8 +103,8 @@ def packets_of(text, plan):
                 starts[plan.channels[int(at)][0]] = [int(word, 16) for word in contents]
             else:
                 ends.append(plan.channels[int(at)][0])
-        found.append((starts, ends))
-    return found
+        rows.append((starts, ends))
+    return trace_kit.packets_of(rows)
 
 
 def streamed(checker, name, texts, room):
@@ -152,17 +152,24 @@ def check_stream(checker):
 
 def check_hex(checker):
     """Text that lost its end, that was cut in a packet, and that is none."""
-    whole = PASS_HEADER + "01010105" + "01020205"
-    checker.write("cut.hex", f"# a note\n{PASS_HEADER}\n01010105\n01020205\n0102\n")
+    whole = PASS_HEADER + "010000010105" + "010002020205"
+    checker.write("cut.hex", f"# a note\n{PASS_HEADER}\n010000010105\n010002020205\n0100\n")
     checker.case("trace of a text without its end", checker.run("trace", "cut.hex", "cut.trace"),
                  ("trace: cut.hex: the trace ends early; an end mark behind 2 whole packets is added\n", 0))
     checker.case("trace's end mark", check_replays.bytes_of(checker, "cut.trace").hex(), whole + "0000000002")
-    checker.write("odd.hex", "5649444954524331\n0x02\n")
+    checker.write("odd.hex", "5649444954524332\n0x02\n")
     checker.refused("trace of other digits", ["trace", "odd.hex", "odd.trace"],
                     "trace: odd.hex line 2: no whole bytes in hexadecimal: 0x02", "odd.trace")
     checker.write("no.hex", "0102\n")
     checker.refused("trace of no trace", ["trace", "no.hex", "no.trace"],
-                    "trace: no.hex: no trace: it doesn't begin with VIDITRC1 or VIDITRC2", "no.trace")
+                    "trace: no.hex: no trace: it doesn't begin with VIDITRC2", "no.trace")
+    checker.write("old.hex", "5649444954524331" + PASS_HEADER[16:] + "0000000000\n")
+    checker.refused("trace of an old trace", ["trace", "old.hex", "old.trace"],
+                    "trace: old.hex: old trace: it begins with VIDITRC1, of version 1", "old.trace")
+    checker.write("reset.hex", PASS_HEADER + "020003" + "010000010105" + "0000000002\n")
+    checker.case("trace of a text with a reset", checker.run("trace", "reset.hex", "reset.trace"), ("", 0))
+    checker.case("the trace of a text with a reset", check_replays.bytes_of(checker, "reset.trace").hex(),
+                 PASS_HEADER + "020003" + "010000010105" + "0000000002")
 
 
 RESET_BENCH = """module bench;
@@ -187,7 +194,7 @@ def check_store_reset(checker):
     said, _ = check_replays.run_bench(checker, "icarus", [], "reset.v", "store.v")
     checker.case("what the store says of a reset", said, "# vidi_store: a reset behind cycle 0, time 25; the trace ends there\n")
     text = tool_kit.text_of(os.path.join(checker.folder, "reset.hex"))
-    checker.case("the store's text before a reset", text, f"{PASS_HEADER}\n01010105\n0000000001\n")
+    checker.case("the store's text before a reset", text, f"{PASS_HEADER}\n010000010105\n0000000001\n")
 
 
 # A stand-in for cocotb, in which the rows of a design's pins come one after the other.
@@ -210,7 +217,7 @@ PLAY = """
 dut = types.SimpleNamespace(clk=None, **{name: Pin() for name in "a_v a_r a_d b_v b_r b_d".split()})
 monitor = record(dut, "cocotb.hex")
 monitor.send(None)
-for row in [(1, 1, 5, 0, 0, 0), (1, 0, 6, 1, 1, 5), (1, 0, 6, 0, 0, 0), (1, 1, 6, 0, 0, 0)]:
+for row in [(0, 1, 0, 0, 0, 0), (1, 1, 5, 0, 0, 0), (1, 0, 6, 1, 1, 5), (1, 0, 6, 0, 0, 0), (1, 1, 6, 0, 0, 0)]:
     for name, value in zip("a_v a_r a_d b_v b_r b_d".split(), row):
         getattr(dut, name).value = value
     monitor.send(None)
@@ -218,14 +225,15 @@ for row in [(1, 1, 5, 0, 0, 0), (1, 0, 6, 1, 1, 5), (1, 0, 6, 0, 0, 0), (1, 1, 6
 
 
 def check_cocotb(checker):
-    """The monitor of vidi_tools/cocotb_record.py, with rows made by hand and a stand-in for cocotb: two words go in, the first comes out while the second waits."""
+    """The monitor of vidi_tools/cocotb_record.py, with rows made by hand and a stand-in for cocotb: two words go in, the first comes out while the
+    second waits. Nothing comes in the first row and in the one before the last."""
     text = tool_kit.text_of(os.path.join(tool_kit.HERE, "vidi_tools", "cocotb_record.py"))
     checker.write("monitor.py", STAND_IN + text.partition('"""\n')[2] + PLAY)
     done = subprocess.run(["python3", "monitor.py"], cwd=checker.folder, capture_output=True, text=True)
     checker.case("the monitor for cocotb runs", (done.stderr, done.returncode), ("", 0))
     checker.run("trace", "cocotb.hex", "cocotb.trace")
     checker.case("the trace of the monitor for cocotb", check_replays.bytes_of(checker, "cocotb.trace").hex(),
-                 PASS_HEADER + "01010105" + "0103020605" + "010001" + "0000000003")
+                 PASS_HEADER + "010001010105" + "01000003020605" + "0100010001" + "0000000003")
 
 
 CHECKS = (check_cocotb, check_store, check_store_reset, check_stream, check_hex)

@@ -358,7 +358,7 @@ def check_explain(checker):
     checker.run("vidi", "record", *files, "free", "a.trace")
     with open(os.path.join(checker.folder, "a.trace"), "rb") as file:
         whole = file.read()
-    tool_kit.write(os.path.join(checker.folder, "b.trace"), whole.replace(b"\1\2\2\6", b"\1\2\2\4"))
+    tool_kit.write(os.path.join(checker.folder, "b.trace"), whole.replace(b"\1\0\0\2\2\6", b"\1\0\0\2\2\4"))
     said, status = checker.run("explain", "a.trace", "b.trace")
     checker.case("explain", (said, status), (tool_kit.text_of(os.path.join(CASES, "explain.out")), 7))
     checker.case("explain of nothing", checker.run("explain", "a.trace", "a.trace"), ("no divergence\n", 0))

@@ -203,7 +203,7 @@ class Played:
 
     def packets(self):
         """The packets of the rows."""
-        return [event for event in self.events if event[0] or event[1]]
+        return trace_kit.packets_of(self.events)
 
     def pins(self):
         """The design's own pins of each reset cycle and each row, and what the design shows in the row (None in reset)."""
@@ -464,20 +464,20 @@ class Play:
         compared("vidi record", said, lines)
         compared("vidi record's status", [status], [5 if played.unstable else 0])
         trace = self.case.bytes_of("trace")
-        compared("the packets of the trace", trace_kit.decoded(trace)[1], packets)
+        compared("the packets of the trace", trace_kit.read(trace).packets, packets)
         compared("the bytes of the trace", list(trace), list(trace_kit.encoded(self.table, packets)))
         self.same_rows("a recording", played)
         return played
 
     def replay(self, cycles, junk):
         """The trace played again for so many cycles: `vidi replay` and OUT."""
-        _, packets = trace_kit.decoded(self.case.bytes_of("trace"))
+        packets = trace_kit.read(self.case.bytes_of("trace")).packets
         played, ended = replay(self.names, self.replayer, packets, cycles, junk)
         said, status = self.case.said("replay", "design.v", "map", "trace", str(cycles), "out.trace")
         lines, wanted = replay_text(played, ended, packets, self.names)
         compared("vidi replay", said, lines)
         compared("vidi replay's status", [status], [wanted])
-        compared("the packets of OUT", trace_kit.decoded(self.case.bytes_of("out.trace"))[1], played.packets())
+        compared("the packets of OUT", trace_kit.read(self.case.bytes_of("out.trace")).packets, played.packets())
         compared("the bytes of OUT", list(self.case.bytes_of("out.trace")), list(trace_kit.encoded(self.table, played.packets())))
         self.same_rows("a replay", played)
         return status

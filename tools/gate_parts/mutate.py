@@ -37,12 +37,12 @@ DESIGN = rb"|".join([
 MAP = rb"M1 line N|M2 port line N|M3 cover X times N|M4 limit (?:channels|ports|bytes) got N|too long, limit 4194304"
 SCRIPT = rb"S1 line N|S2 channel line N|S3 number line N|too long, limit 4194304"
 STALLS = rb"P1 line N|too small need N given N|too long, limit 4194304"
-TRACE = rb"bad trace at N|too long, limit 67108864"
+TRACE = rb"bad trace at N|too long, limit 134217728"
 REFUSED = {
     "check": {"design": DESIGN}, "run": {"design": DESIGN, "map": MAP, "script": SCRIPT},
     "record": {"design": DESIGN, "map": MAP, "script": SCRIPT, "stalls": STALLS},
-    "replay": {"design": DESIGN, "map": MAP, "trace": TRACE + rb"|other channels at N"}, "dump": {"trace": TRACE},
-    "compare": {"trace": TRACE, "other": TRACE + rb"|other channels at N"}, "salvage": {"trace": rb"bad trace at 0|too long, limit 67108864"},
+    "replay": {"design": DESIGN, "map": MAP, "trace": TRACE + rb"|other channels at N|reset in packet N"}, "dump": {"trace": TRACE},
+    "compare": {"trace": TRACE, "other": TRACE + rb"|other channels at N"}, "salvage": {"trace": rb"bad trace at 0|too long, limit 134217728"},
     "wrap": {"design": DESIGN + rb"|reserved X|wrapped has EN|wrapped text too long", "map": MAP},
 }
 FINDINGS = rb"(?:(?:differs CH start N|(?:missing|extra) CH (?:start|end) N|early CH (?:start|end) N count N)\n)+diverged\n"

@@ -7,7 +7,7 @@ The files of number s, where x_0 = s, x_(i+1) = (x_i * 1103515245 + 12345) mod 2
 - design: the module of examples/pass, and a module pipe with the same ports, which chains 1 + s mod 8 instances of it
 - map: that of examples/pass, with `top pipe`
 - script: `cycles N` with 100 + 8 * s; `a send V` for each of y_1 to y_s, where V is its lower 8 bits; `b take all`
-- stalls: `capacity N` with 14 + s mod 32; `drain B 1` for each of the eight numbers from y_(s+1) on, where B is 1 and its lower 3 bits
+- stalls: `capacity N` with 22 + s mod 32; `drain B 1` for each of the eight numbers from y_(s+1) on, where B is 1 and its lower 3 bits
 """
 import os
 import re
@@ -20,7 +20,7 @@ from vidi_tools.tool_kit import Problem
 DATA = os.path.join(tool_kit.HERE, "..", "crates", "vidi_cases", "data", "sample.case")
 HEAD = "## Made by tools/gate cases: a model of the registers, the store and the replayers in Python.\n"
 # Bytes of a packet without contents, and what each of two channels of a byte reserves while it is idle.
-PACKET, IDLE = 3, 2 * 3 + 1
+PACKET, IDLE = 5, 2 * 5 + 1
 NAMES = "ab"
 MOST_CYCLES = 50_000
 
@@ -33,7 +33,7 @@ class Sample:
         for _ in range(number + 8):
             state = (state * 1103515245 + 12345) % 2**31
             drawn.append(state // 65536)
-        self.number, self.stages, self.cycles, self.capacity = number, 1 + number % 8, 100 + 8 * number, 14 + number % 32
+        self.number, self.stages, self.cycles, self.capacity = number, 1 + number % 8, 100 + 8 * number, 22 + number % 32
         self.sends = [value % 256 for value in drawn[:number]]
         self.drains = [1 + value % 8 for value in drawn[number:]]
 
@@ -173,11 +173,11 @@ def case(word, marks=""):
 def wanted():
     """The case file."""
     cases = [HEAD, "** each of the eight designs; no send\n", *(case(str(number)) for number in range(8))]
-    cases += ["** the first whose replay is early\n", *(case(str(number)) for number in (34, 35, 53))]
+    cases += ["** the first whose replay is early\n", *(case(str(number)) for number in (9, 10, 15))]
     cases += ["** the same number twice, and the largest\n", *(case(word) for word in ("600", "600", "6000"))]
-    cases += ["** numbers as they may be written\n", *(case(word) for word in ("0x1", "01", "0x22"))]
+    cases += ["** numbers as they may be written\n", *(case(word) for word in ("0x1", "01", "0x9"))]
     cases += ["** a push that fails, and one more; no file is fetched, started or added to\n"]
-    cases += [case(word, f"!! push {k}\n") for word in ("1", "34") for k in (1, 2)]
+    cases += [case(word, f"!! push {k}\n") for word in ("1", "9") for k in (1, 2)]
     cases += [case("1", f"!! {call} 1\n") for call in ("fetch", "start", "append")]
     cases += ["** a file of the trace's name stays\n", "-- trace\nas it was\n", case("1")]
     words = ["sample", "sample 6001", "sample 1 2", "sample x", "sample -1", "sample 1x", "sample 0x", "sample 0x1771",

@@ -38,7 +38,7 @@ def repository(room):
 def main():
     """Builds and measures."""
     parser = argparse.ArgumentParser(description=__doc__, formatter_class=argparse.RawDescriptionHelpFormatter)
-    parser.add_argument("traces", metavar="TRACE", nargs="+", help="a version 1 trace, such as make trace makes")
+    parser.add_argument("traces", metavar="TRACE", nargs="+", help="a trace, such as make trace makes")
     tool_kit.add_verbose(parser)
     options = tool_kit.parse_options(parser)
     lacking = [it for it in options.traces if not os.path.isfile(it)]

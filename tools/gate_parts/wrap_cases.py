@@ -235,9 +235,9 @@ def wide():
     return Device("wide", all_ports(channels), channels)
 
 
-def many():
-    """32 channels, by turns in and out; every third has no content."""
-    channels = [Channel(f"c{n}", n % 2 == 0, [] if n % 3 == 2 else [8] * (n % 3 + 1)) for n in range(32)]
+def many(count):
+    """So many channels, by turns in and out; every third has no content."""
+    channels = [Channel(f"c{n}", n % 2 == 0, [] if n % 3 == 2 else [8] * (n % 3 + 1)) for n in range(count)]
     return Device("many", all_ports(channels), channels)
 
 
@@ -276,6 +276,11 @@ def case(device):
     return "".join(lines)
 
 
+def taken(device):
+    """The design is wrapped, as OUT is started, which fails: so the long text needn't stand here."""
+    return "".join([*called(device), "!! start 1\n", part(">>", "3", "")])
+
+
 def refused(device):
     """The design is refused."""
     return "".join([*called(device), part(">>", "4", "vidi: refused design: wrapped has E12\n")])
@@ -288,7 +293,10 @@ def called(device):
 CASES = [
     ("ties, a reset, ignored outputs, and channels with and without contents", case, held()),
     ("16 contents each way", case, wide()),
-    ("32 channels", case, many()),
+    ("33 channels", case, many(33)),
+    ("126 channels, with 65,334 nets in the top that replays", taken, many(126)),
+    ("127 channels, with 66,362", refused, many(127)),
+    ("128 channels, with 67,397", refused, many(128)),
     ("65,536 nets with the top that replays", case, full(95)),
     ("one net more than that top may have", refused, full(96)),
     ("65,536 nets with the top that records, and too many with the other", refused, full(99)),

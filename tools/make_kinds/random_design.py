@@ -14,6 +14,7 @@ import random
 import sys
 
 from vidi_tools import tool_kit
+from vidi_tools import trace_kit
 from vidi_tools.tool_kit import Problem
 
 WIDTHS = [1, 1, 2, 3, 4, 8, 8, 13, 16, 31, 32, 33, 64, 65, 128]
@@ -325,8 +326,8 @@ class Writer:
 
     def stalls(self):
         """The text of a plan whose store is small, at times the least."""
-        draw, head = self.draw, 1 + 2 * -(-len(self.channels) // 8)
-        need = sum(2 * head + sum((net.width + 7) // 8 for net in contents) for *_, contents in self.channels)
+        draw, head = self.draw, trace_kit.head_bytes(len(self.channels))
+        need = sum(2 * head + trace_kit.content_bytes(net.width for net in contents) for *_, contents in self.channels)
         lines = [f"capacity {need + draw.choice([0, 1, 4, 9, 30, 1000])}"]
         lines += [f"drain {draw.choice(['all', 0, 1, 2, 3, 5, 9])} {draw.randrange(1, 5)}" for _ in range(draw.choice([0, 1, 1, 2, 4]))]
         return "\n".join(lines) + "\n"

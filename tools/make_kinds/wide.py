@@ -2,11 +2,12 @@
 
     make wide STAGES CYCLES FOLDER
 
-FOLDER gets `design.v`, `map` and `script` for `vidi run`. STAGES is 1 to 16, CYCLES 1 to 50,000. Each stage has an inward and an
+FOLDER gets `design.v`, `map` and `script` for `vidi run`. STAGES is 1 to 64, CYCLES 1 to 50,000. Each stage has an inward and an
 outward channel of 8 bits; each inward one sends in each cycle, and each outward one takes all.
 """
 
 import pathlib
+import string
 import sys
 
 STAGE = """module stage(input clk, input a_v, output a_r, input [7:0] a_d, output b_v, input b_r, output [7:0] b_d);
@@ -18,8 +19,8 @@ STAGE = """module stage(input clk, input a_v, output a_r, input [7:0] a_d, outpu
   always @(posedge clk) if (a_v & a_r) begin full <= 1'b1; d <= a_d; end else if (b_r) full <= 1'b0;
 endmodule
 """
-INWARD = "abcdefghijklmnop"
-OUTWARD = INWARD.upper()
+INWARD = [*string.ascii_lowercase, *(f"i{k}" for k in range(26, 64))]
+OUTWARD = [*string.ascii_uppercase, *(f"o{k}" for k in range(26, 64))]
 
 
 def ports(k):

@@ -60,9 +60,9 @@ def in_flight(path):
     """The outward channels that a trace ends with while they wait: what broke there isn't in it."""
     trace = trace_kit.read_file(path)
     counts = {channel.name: 0 for channel in trace.channels if not channel.is_inward}
-    for started, ended in trace.packets:
+    for packet in trace.packets:
         for name in counts:
-            counts[name] += (name in started) - (name in ended)
+            counts[name] = 0 if packet.is_reset else counts[name] + (name in packet.starts) - (name in packet.ends)
     return [name for name, count in counts.items() if count]
 
 

@@ -6,8 +6,7 @@
 By clocks (where nothing is said) an input starts, and an output is taken, once the completions that were recorded before it have come: what
 `vidi replay` does, and what the design shows is the trace that it writes. By packets they wait for all starts and completions of the packets
 before, and starts of outputs wait too, so all comes in the recorded order. By cycles they wait for the recorded cycle as well: a
-recording comes again as it was. For that the trace has to say cycles, which those of version 2 do; of one of version 1 it is played with the
-script that it was made by, or that `capture` made.
+recording comes again as it was. A script is played by cycles. A trace with a reset isn't played.
 
 BENCH.v has the module vidi_bench and the commands to run it; FILES are named there, and of a script Icarus is asked on them how wide the contents
 are. It prints what `vidi dump` prints of the trace of what the
@@ -64,14 +63,13 @@ def bench_of_trace(options, plan):
     """The bench of a trace."""
     trace = trace_kit.read_file(options.trace)
     refuse_channels(trace, plan, options.trace)
-    if options.by == "cycles" and trace.version == 1:
-        raise Problem(f"{options.trace}: a trace of version 1 doesn't say in which cycles its packets began: say --script with the script that it "
-                      "was made by, or play it by packets or by clocks")
+    if trace.first_reset() is not None:
+        raise Problem(f"{options.trace}: reset in packet {trace.first_reset()}, and a bench plays none")
     widths = {port: width for channel, table in zip(plan.channels, trace.channels) for port, width in zip(channel.ports, table.widths)}
     widths.update(port_kit.widths_of(options, plan) if options.files and plan.ties else {})
     bench = bench_kit.Bench(plan, store_kit.channels_of(plan, widths), options.by, {port: widths[port] for port in plan.ties if port in widths})
-    bench.trace, bench.version = trace, trace.version
-    bench.cycles = max(bench.cycles, 2 * len(trace.packets) + 1000, sum(trace.gaps) + len(trace.packets) + 1000)
+    bench.trace = trace
+    bench.cycles = max(bench.cycles, 2 * len(trace.packets) + 1000, max(trace.cycles(), default=0) + 1000)
     bench.rest = 0 if options.by == "clocks" else bench_kit.ROOM
     return bench
 

@@ -13,7 +13,7 @@ class Bench:
     def __init__(self, plan, channels, way, widths):
         self.plan, self.channels, self.way, self.widths = plan, channels, way, widths
         self.trace, self.steps, self.cycles, self.rest = None, None, 50000, 0
-        self.zeros, self.params, self.name, self.version = [], [], "bench", 1
+        self.zeros, self.params, self.name = [], [], "bench"
 
     def pin(self, port):
         """The net at a port of the design."""
@@ -90,7 +90,7 @@ def state(bench):
         for name, old, width in zip(channel.contents("d"), channel.contents("last"), channel.widths):
             yield f"  reg {span(width)}{name}, {old};"
         joins += [f".v_{at}(shown_{at})", f".r_{at}(r_{at})"] + [f".{name}({name})" for name in channel.contents("d")]
-    yield f'  vidi_store #(.FILE("{bench.name}.hex"), .VERSION({bench.version}), .SHOW(1)) store ({", ".join(joins)});'
+    yield f'  vidi_store #(.FILE("{bench.name}.hex"), .SHOW(1)) store ({", ".join(joins)});'
 
 
 def tables(bench):
@@ -108,13 +108,13 @@ def tables(bench):
 def packet_lines(bench):
     """The statements that fill the memories: of each packet the gap, the channels that start and those that end, and contents."""
     trace, count, places = bench.trace, len(bench.channels), {channel.name: 0 for channel in bench.channels}
-    for number, (started, ended) in enumerate(trace.packets):
-        starts, ends = (sum(1 << at for at, channel in bench.each() if channel.name in names) for names in (started, ended))
-        word = ((trace.gaps[number] if trace.gaps else 0) << count | starts) << count | ends
+    for number, packet in enumerate(trace.packets):
+        starts, ends = (sum(1 << at for at, channel in bench.each() if channel.name in names) for names in (packet.starts, packet.ends))
+        word = (packet.gap << count | starts) << count | ends
         yield f"      packet[{number}] = {2 * count + 16}'h{word:x};"
         for channel in bench.channels:
-            if channel.name in started:
-                for name, width, value in zip(channel.contents("s"), channel.widths, started[channel.name]):
+            if channel.name in packet.starts:
+                for name, width, value in zip(channel.contents("s"), channel.widths, packet.starts[channel.name]):
                     yield f"      {name}[{places[channel.name]}] = {width}'h{value:x};"
                 places[channel.name] += 1
 

@@ -10,8 +10,9 @@ edge. With --each-step it is each time step: the samples of a logic analyser, wh
 with --from N before the reset number N, is left out; where a valid is 1 there, that is said. Refused with the time, and nothing is
 written: an x or z at a valid, a ready or the reset, a tied port that isn't at its number, a reset that comes again. A valid that is taken
 back, or a content that changes before it is taken, is said; the capture ends there, of an outward channel with the cycle in which vidi run says
-unstable. Where the other polarity of the reset would give more cycles, that is said with their number. Said too: x bits of a content, which count as 0; a
-content that isn't 0 beside a valid that is 0, where Vidi shows 0; a reset that never acts. Status 7 where --check finds a difference.
+unstable. Where the other polarity of the reset would give more cycles, that is said with their number. Said too: x bits of a content, which
+count as 0; a content that isn't 0 beside a valid that is 0, where Vidi shows 0; a reset that never acts; more than 65,535 cycles without an
+event, of which a trace keeps so many. Status 7 where --check finds a difference.
 """
 import argparse
 import itertools
@@ -206,10 +207,15 @@ def events(plan, rows):
         yield started, ended
 
 
-def trace_of(plan, rows, widths):
-    """The bytes of the trace."""
+def trace_of(plan, rows, widths, notes):
+    """The bytes of the trace. Of a gap that is too long for a trace its most is kept, which is said."""
     table = [trace_kit.Table(channel.name, channel.is_inward, [widths[port] for port in channel.ports]) for channel in plan.channels]
-    return trace_kit.encoded(table, [row for row in events(plan, rows) if row[0] or row[1]])
+    packets = trace_kit.packets_of(events(plan, rows))
+    for number, packet in enumerate(packets):
+        if packet.gap > trace_kit.MOST_GAP:
+            notes.append(f"nothing in {packet.gap} cycles before packet {number}; the trace has {trace_kit.MOST_GAP} of them, the most")
+            packets[number] = packet._replace(gap=trace_kit.MOST_GAP)
+    return trace_kit.encoded(table, packets)
 
 
 def compared(options, sampler, rows):
@@ -276,7 +282,7 @@ def main():
         if sampler.cycles > LONGEST:
             raise Problem(f"{options.waves} has more than {LONGEST} cycles, the most of a script: capture a part with --cycles, begin at a later "
                           "reset with --from, or make a trace with --trace, which has no limit")
-    trace = trace_of(plan, rows, waves.widths) if options.trace else None
+    trace = trace_of(plan, rows, waves.widths, sampler.notes) if options.trace else None
     script = script_of(plan, rows, sampler.cycles, sampler.notes) if is_script else None
     for path, content in ((options.trace, trace), (options.out, script)):
         if path:

@@ -16,9 +16,9 @@ def mask(flags):
 
 async def record(dut, path):
     """Writes the trace of the channels; start it with cocotb.start_soon behind the reset."""
-    flying = [False] * len(CHANNELS)
+    flying, gap = [False] * len(CHANNELS), 0
     with open(path, "w") as out:
-        header = b"VIDITRC1" + bytes([len(CHANNELS)])
+        header = b"VIDITRC2" + bytes([len(CHANNELS)])
         for name, inward, _, _, ports in CHANNELS:
             header += bytes([not inward, len(name)]) + name.encode() + bytes([len(ports), *(width for _, width in ports)])
         print(header.hex(), file=out, flush=True)
@@ -31,4 +31,6 @@ async def record(dut, path):
             if any(starts) or any(ends):
                 contents = b"".join(int(getattr(dut, port).value).to_bytes((width + 7) // 8, "big")
                                     for (*_, ports), start in zip(CHANNELS, starts) if start for port, width in ports)
-                print((b"\1" + mask(starts) + mask(ends) + contents).hex(), file=out, flush=True)
+                print((b"\1" + gap.to_bytes(2, "big") + mask(starts) + mask(ends) + contents).hex(), file=out, flush=True)
+                gap = -1
+            gap = min(gap + 1, 65535)  # the cycles since the packet before

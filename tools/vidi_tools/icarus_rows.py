@@ -1,11 +1,11 @@
 """Prints what `vidi run` has to print, with Icarus Verilog in the place of Vidi: for the files run.out of examples/.
-With a plan of stalls it prints what `vidi record` and then `vidi dump` of its trace have to print: for the files record.out.
+With a plan of stalls it prints what `vidi record` and then `vidi dump` of its trace have to print, for the files record.out; with --trace the
+bytes of that trace, for the files trace.hex.
 
-    gate rows DESIGN MAP SCRIPT [STALLS]
+    gate rows [--trace] DESIGN MAP SCRIPT [STALLS]
 
 Icarus (iverilog and vvp) runs the design: a bench reads the pins of each cycle, and prints the outputs before the clock rises.
-This file plays the script and the gates, and makes the rows and the packets, with lists and counts of its own. It trusts its files:
-it refuses nothing.
+This file plays the script and the gates, and makes the rows, with lists and counts of its own. It trusts its files: it refuses nothing.
 
 Vidi has no x: registers and memories start at 0. So the copy that Icarus runs has SystemVerilog's `bit` for `reg`, which starts at 0,
 a loop that sets each memory to 0, and `always_comb` for `always @*`, which also runs once at the start.
@@ -15,6 +15,8 @@ import re
 import subprocess
 import sys
 import tempfile
+
+from vidi_tools import trace_kit
 
 
 def lines(path):
@@ -147,7 +149,7 @@ class Room:
         (_, capacity), *drains = lines(path)
         self.capacity, self.used, self.up = number(capacity), 0, set(widths)
         self.drains = [amount for _, amount, count in drains for _ in range(number(count))] or ["all"]
-        self.head = 1 + 2 * -(-len(widths) // 8)
+        self.head = 3 + 2 * -(-len(widths) // 8)
         self.content = {name: sum(-(-width // 8) for width in ports) for name, ports in widths.items()}
 
     def pass_row(self, cycle, starts, ends, flying):
@@ -247,30 +249,29 @@ def text_of_rows(rows, unstable):
     return "\n".join(said) + "\n"
 
 
-def say_recording(plan, widths, rows, unstable):
-    """The line of the recording, then the lines of its trace: each event with the completions of the packets before."""
-    packets = [row for row in rows if row[0] or row[1]]
-    print(f"vidi: unstable {unstable} cycle {len(rows)}" if unstable else f"recorded {len(rows)} cycles {len(packets)} packets")
-    for number_of, (name, inward, *_) in enumerate(plan.channels):
-        print("channel", number_of, "in" if inward else "out", name, *widths[name])
-    done = {name: 0 for name in widths}
-    for number_of, (started, ended) in enumerate(packets):
-        clock = list(done.values())
-        for name, content in started.items():
-            print(number_of, "start", name, *content, "clock", *clock)
-        for name in ended:
-            print(number_of, "end", name, "clock", *clock)
-            done[name] += 1
-    print("packets", len(packets))
+def trace_of(plan, widths, rows):
+    """The trace of these rows."""
+    table = [trace_kit.Table(name, inward, widths[name]) for name, inward, *_ in plan.channels]
+    return trace_kit.Trace(table, trace_kit.packets_of(rows))
+
+
+def text_of_recording(trace, rows, unstable, is_trace):
+    """The line of the recording and the lines of its trace, or the digits of that."""
+    if is_trace:
+        return trace_kit.digits_of(trace_kit.encoded(trace.channels, trace.packets))
+    first = f"vidi: unstable {unstable} cycle {len(rows)}" if unstable else f"recorded {len(rows)} cycles {len(trace.packets)} packets"
+    return "\n".join([first, *trace_kit.lines_of(trace)]) + "\n"
 
 
 def main():
-    path, plan, script = sys.argv[1], Map(sys.argv[2]), lines(sys.argv[3])
+    """Plays, and prints."""
+    path, map_path, script, *stalls = [word for word in sys.argv[1:] if word != "--trace"]
+    plan = Map(map_path)
     with tempfile.TemporaryDirectory() as folder:
         design = Design(path, plan, folder)
-        room = Room(design.widths, sys.argv[4]) if len(sys.argv) > 4 else AllUp(design.widths)
-        rows, unstable, _ = play(plan, design, script, room)
-        if len(sys.argv) > 4:
-            say_recording(plan, design.widths, rows, unstable)
-        else:
-            sys.stdout.write(text_of_rows(rows, unstable))
+        room = Room(design.widths, stalls[0]) if stalls else AllUp(design.widths)
+        rows, unstable, _ = play(plan, design, lines(script), room)
+    if stalls:
+        sys.stdout.write(text_of_recording(trace_of(plan, design.widths, rows), rows, unstable, "--trace" in sys.argv))
+    else:
+        sys.stdout.write(text_of_rows(rows, unstable))

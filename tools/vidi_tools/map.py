@@ -20,6 +20,7 @@ import sys
 import tempfile
 
 from vidi_tools import tool_kit
+from vidi_tools import trace_kit
 from vidi_tools.tool_kit import Problem
 
 HANDSHAKES = [("tvalid", "tready"), ("valid", "ready"), ("vld", "rdy"), ("val", "rdy"), ("valid", "rdy"), ("v", "r")]
@@ -253,9 +254,8 @@ def first_script(ports):
 
 def first_stalls(ports):
     """A plan of stalls of which no gate goes down: room for some starts and ends of all channels, and everything drains in each cycle."""
-    head = 1 + 2 * -(-len(ports.channels) // 8)
-    content = sum(-(-ports.widths[port] // 8) for channel in ports.channels for port in channel[4])
-    return f"capacity {4 * (2 * head * len(ports.channels) + content)}\ndrain all 1\n"
+    content = trace_kit.content_bytes(ports.widths[port] for channel in ports.channels for port in channel[4])
+    return f"capacity {4 * (2 * trace_kit.head_bytes(len(ports.channels)) * len(ports.channels) + content)}\ndrain all 1\n"
 
 
 def parser():

@@ -40,9 +40,9 @@ ADVICE = [
     ("M2 ", "{place}: {fault}"),
     ("M3 cover (.*) times 0", "no line of {path} names the port {0}: name it in a channel, or write {fault}"),
     ("M3 cover (.*) times (.*)", "{path} names the port {0} {1} times: take it out of all lines but one"),
-    ("M4 limit channels got (.*)", "{path} has {0} channels, and 1 to 32 are lawful"),
+    ("M4 limit channels got (.*)", "{path} has {0} channels, and 1 to 128 are lawful"),
     ("M4 limit ports got (.*)", "{path} has a channel with {0} content ports, and 16 are the most: ignore some, or make two channels"),
-    ("M4 limit bytes got (.*)", "{path} has {0} content bytes in all channels, and 1,024 are the most: ignore some"),
+    ("M4 limit bytes got (.*)", "{path} has {0} content bytes in all channels, and 2,048 are the most: ignore some"),
     ("S1 ", "{at} is no line of a script: cycles N first, then CH send N .., CH take N, CH take all, CH wait N, CH after OTHER N"),
     ("S2 ", "{place}: {fault}"),
     ("S3 ", "{place}: {fault}"),
@@ -50,6 +50,7 @@ ADVICE = [
     ("too small need (.*) given (.*)", "{path} has a capacity of {1} bytes, and a start and an end of each channel need {0}: write capacity {0}"),
     ("too long, limit (.*)", "{path} has more than {0} bytes: make it shorter"),
     ("bad trace at (.*)", "{fault}"),
+    ("reset in packet (.*)", "in {path} the design was reset in packet {0}, and replay plays no trace with a reset yet"),
     ("other channels at (.*)", "{path} has other channels from number {0} on: {fault}"),
     ("reserved (.*)", "{path}: the name {0} begins with vidi_, which wrap gives its own modules: rename it"),
     ("wrapped has (.*)", "what wrap makes of {path} is refused by {0}, as it is too big: take channels out of the map"),
@@ -140,10 +141,10 @@ def trace_fault(path, whole):
     content = content_of(path)
     if content[:7] != b"VIDITRC":
         return f"{path} is no trace: it doesn't begin with VIDITRC"
-    if content[:8] == b"VIDITRC2":
-        return f"{path} is a trace of version 2, which this program doesn't read; vidi-tools bench plays it"
+    if content[:8] == b"VIDITRC1":
+        return f"{path} is an old trace, of version 1, and this program reads version 2"
     if whole == 0:
-        return f"{path} begins with VIDITRC1, but its list of channels isn't whole"
+        return f"{path} begins with VIDITRC, but its list of channels isn't whole"
     return f"{path} is whole up to byte {whole} of {len(content)}: vidi salvage {path} OUT writes what is whole"
 
 

@@ -1,4 +1,7 @@
 """The Verilog of a recorder: a module that watches channels and writes their trace as hexadecimal text, and prints it as `vidi dump` does."""
+from vidi_tools import trace_kit
+
+GAP = "cycle - free > 65535 ? 16'hffff : cycle[15:0] - free[15:0]"  # the cycles between the packet before and this one
 
 
 class Pins:
@@ -38,14 +41,6 @@ def mask(stem, count):
     return "{" + ", ".join(parts) + "}"
 
 
-def header_digits(channels):
-    """The digits of a trace's header behind its first eight bytes."""
-    table = bytes([len(channels)])
-    for channel in channels:
-        table += bytes([not channel.is_inward, len(channel.name)]) + channel.name.encode() + bytes([len(channel.widths), *channel.widths])
-    return table.hex()
-
-
 def shown_lines(channels):
     """The statements that print a packet as `vidi dump` does."""
     clock, counts = " ".join(["%0d"] * len(channels)), ", ".join(f"done_{channel.number}" for channel in channels)
@@ -65,7 +60,6 @@ def declared(channels):
         ports += [f"input v_{at}", f"input r_{at}"] + [f"input {span(width)}{name}" for name, width in zip(channel.contents("d"), channel.widths)]
     yield "module vidi_store (" + ",\n  ".join(ports) + ");"
     yield '  parameter FILE = "trace.hex";  // the trace, as hexadecimal text'
-    yield "  parameter VERSION = 1;         // of the trace: 2 has the cycles between packets"
     yield "  parameter SHOW = 0;            // 1: print each event as vidi dump does"
     yield "  integer file;\n  reg [31:0] packets, cycle, free;"
     for channel in channels:
@@ -77,7 +71,7 @@ def opening(channels):
     """The initial block: all counts from 0, the file, its header."""
     zero = " ".join(f"fly_{channel.number} = 0; done_{channel.number} = 0;" for channel in channels)
     yield f"  initial begin\n    packets = 0; cycle = 0; free = 0; {zero}\n    file = $fopen(FILE, \"w\");"
-    yield f'    $fwrite(file, "56494449545243%h{header_digits(channels)}\\n", VERSION == 2 ? 8\'h32 : 8\'h31);'
+    yield f'    $fwrite(file, "{trace_kit.header(channels).hex()}\\n");'
     for channel in channels:
         words = ["channel", channel.number, "in" if channel.is_inward else "out", channel.name, *channel.widths]
         yield f'    if (SHOW) $display("{" ".join(map(str, words))}");'
@@ -89,8 +83,9 @@ def writing(channels):
     count = len(channels)
     some = " | ".join(f"start_{channel.number} | stop_{channel.number}" for channel in channels)
     yield "  task packet;\n    begin\n      $fwrite(file, \"01\");"
-    yield '      if (VERSION == 2) $fwrite(file, "%h", cycle - free > 65535 ? 16\'hffff : cycle[15:0] - free[15:0]);'
-    yield f'      $fwrite(file, "%h%h", {mask("start", count)}, {mask("stop", count)});'
+    yield "      if (cycle - free > 65535)"
+    yield '        $display("# vidi_store: nothing in %0d cycles before cycle %0d; the trace has 65535 of them, the most", cycle - free, cycle);'
+    yield f'      $fwrite(file, "%h%h%h", {GAP}, {mask("start", count)}, {mask("stop", count)});'
     for channel in channels:
         for name, width in zip(channel.contents("d"), channel.widths):
             yield f'      if (start_{channel.number}) $fwrite(file, "%h", {octets(name, width)});'

@@ -1,15 +1,11 @@
 """The Verilog of a recorder that can be synthesised: packets as beats of an AXI4-Stream, and gates from the room of the FIFO before it."""
-from vidi_tools.store_kit import header_digits, octets, span
-
-
-def head_bytes(channels):
-    """The bytes of a packet without contents."""
-    return 1 + 2 * -(-len(channels) // 8)
+from vidi_tools.store_kit import octets, span
+from vidi_tools.trace_kit import content_bytes, head_bytes, header
 
 
 def beat_bytes(channels):
     """The bytes of the longest packet, which are those of a beat."""
-    return head_bytes(channels) + sum(-(-width // 8) for channel in channels for width in channel.widths)
+    return head_bytes(len(channels)) + sum(content_bytes(channel.widths) for channel in channels)
 
 
 def least_room(channels):
@@ -33,7 +29,7 @@ def comment(channels, room):
     yield "//   vidi_stream stream (.clk(clk), .rst(rst), .start_0(start_0), .stop_0(stop_0), .g_0(g_0), ..);"
     yield f"// A beat is a packet: {size} bytes, tdata[7:0] first, of which tkeep has those that count. The FIFO has {room} beats. A trace is these"
     yield "// bytes in order, then the end mark, which vidi-tools trace adds: behind the header, in hexadecimal:"
-    yield f"//   5649444954524331{header_digits(channels)}"
+    yield f"//   {header(channels).hex()}"
 
 
 def packet(channels, size):
@@ -44,8 +40,11 @@ def packet(channels, size):
             turned = ", ".join(f"whole_{name[2:]}[{8 * at + 7}:{8 * at}]" for at in range(count))
             yield f"  wire [{8 * count - 1}:0] whole_{name[2:]} = {octets(name, width)};"
             yield f"  wire [{8 * count - 1}:0] turned_{name[2:]} = {{{turned}}};"
+    yield "  reg [15:0] gap;  // the cycles since the packet before, 65535 at most"
+    yield "  always @(posedge clk)\n    if (rst | push) gap <= 0;\n    else if (gap != 65535) gap <= gap + 1;"
     yield f"  reg [{8 * size - 1}:0] bytes, wide;\n  reg [{size.bit_length() - 1}:0] size;\n  always @* begin"
-    yield f"    bytes = {{{mask_bytes('stop', channels)}, {mask_bytes('start', channels)}, 8'd1}};\n    size = {head_bytes(channels)};"
+    yield f"    bytes = {{{mask_bytes('stop', channels)}, {mask_bytes('start', channels)}, gap[7:0], gap[15:8], 8'd1}};"
+    yield f"    size = {head_bytes(len(channels))};"
     yield "    wide = 0;"
     for channel in channels:
         for name, width in zip(channel.contents("d"), channel.widths):

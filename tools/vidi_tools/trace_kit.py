@@ -1,5 +1,15 @@
 """The bytes of a trace, and what it means: docs/FILES.md, "The bytes of a trace" and "replay"."""
+import collections
+
 from vidi_tools.tool_kit import Problem
+
+MAGIC, OLD_MAGIC = b"VIDITRC2", b"VIDITRC1"
+MOST_CHANNELS, MOST_BYTES, MOST_GAP = 128, 2_048, 65_535
+ROW, RESET = 1, 2
+
+# What one cycle adds: its starts with contents by name, the names of those that end, and the gap, which are the cycles between the packet before and
+# this one; or that the design was reset there. A list of starts and ends alone serves where neither gaps nor resets count.
+Packet = collections.namedtuple("Packet", "starts ends gap is_reset", defaults=(0, False))
 
 
 class Table:
@@ -28,71 +38,97 @@ class Bytes:
 
 
 class Trace:
-    """A trace of version 1 or 2: its channels, its packets as (starts with contents by name, names of those that end), and of version 2 the gap
-    before each packet, in cycles."""
+    """A trace: its channels, and its packets."""
 
-    def __init__(self, version, channels, packets, gaps):
-        self.version, self.channels, self.packets, self.gaps = version, channels, packets, gaps  # gaps is empty in version 1
+    def __init__(self, channels, packets):
+        self.channels, self.packets = channels, packets
 
     def cycles(self):
-        """The cycle in which each packet began, of version 2."""
-        at, found = 0, []
-        for gap in self.gaps:
-            found.append(at + gap)
-            at += gap + 1
+        """The cycle in which each packet began."""
+        end, found = 0, []
+        for packet in self.packets:
+            found.append(end + packet.gap)
+            end = found[-1] + (not packet.is_reset)
         return found
+
+    def first_reset(self):
+        """The number of the first packet that is a reset, or None."""
+        return next((number for number, packet in enumerate(self.packets) if packet.is_reset), None)
+
+
+def head_bytes(count):
+    """The bytes of a packet without contents, over so many channels."""
+    return 3 + 2 * -(-count // 8)
+
+
+def content_bytes(widths):
+    """The bytes of contents of these widths."""
+    return sum(-(-width // 8) for width in widths)
+
+
+def checked(channels):
+    """The channels, where a trace can have so many, with so many contents."""
+    size = sum(content_bytes(channel.widths) for channel in channels)
+    if not 1 <= len(channels) <= MOST_CHANNELS:
+        raise Problem(f"a trace of {len(channels)} channels, and 1 to {MOST_CHANNELS} are lawful")
+    if size > MOST_BYTES:
+        raise Problem(f"a trace with {size} content bytes in all channels, and {MOST_BYTES:,} are the most")
+    return channels
 
 
 def header_of(source):
-    """The version and the channels of a trace."""
-    if source.content[:8] not in (b"VIDITRC1", b"VIDITRC2"):
-        raise Problem("no trace: it doesn't begin with VIDITRC1 or VIDITRC2")
-    version, channels = source.take(8)[7] - ord("0"), []
+    """The channels of a trace."""
+    magic = source.content[:8]
+    if magic == OLD_MAGIC:
+        raise Problem("old trace: it begins with VIDITRC1, of version 1")
+    if magic != MAGIC:
+        raise Problem("no trace: it doesn't begin with VIDITRC2")
+    source.take(8)
+    channels = []
     for _ in range(source.number()):
         is_inward = source.number() == 0
         name = source.take(source.number()).decode(errors="replace")
         channels.append(Table(name, is_inward, list(source.take(source.number()))))
-    return version, channels
+    return checked(channels)
 
 
-def next_packet(source, trace):
-    """Takes the next packet into a trace; False at its end mark."""
-    kind, size = source.number(), (len(trace.channels) + 7) // 8
+def next_packet(source, channels):
+    """The next packet; None at the end mark."""
+    at, kind, size = source.at, source.number(), (len(channels) + 7) // 8
     if kind == 0:
-        return False
-    if kind != 1:
-        is_reset = (trace.version, kind) == (2, 2)
-        raise Problem(f"packet {len(trace.packets)} is a reset" if is_reset else f"the trace has no packet at byte {source.at - 1}")
-    gap = [source.number(2)] if trace.version == 2 else []
+        return None
+    if kind not in (ROW, RESET):
+        raise Problem(f"the trace has no packet at byte {at}")
+    gap = source.number(2)
+    if kind == RESET:
+        return Packet({}, [], gap, True)
     starts, ends = (int.from_bytes(source.take(size), "little") for _ in range(2))
     started = {channel.name: [source.number((width + 7) // 8) for width in channel.widths]
-               for at, channel in enumerate(trace.channels) if starts >> at & 1}
-    trace.packets.append((started, [channel.name for at, channel in enumerate(trace.channels) if ends >> at & 1]))
-    trace.gaps += gap
-    return True
+               for at, channel in enumerate(channels) if starts >> at & 1}
+    return Packet(started, [channel.name for at, channel in enumerate(channels) if ends >> at & 1], gap)
 
 
 def read(content):
     """The trace that these bytes are."""
     source = Bytes(content)
-    trace = Trace(*header_of(source), [], [])
-    while next_packet(source, trace):
-        pass
-    if source.number(4) != len(trace.packets) or source.at != len(content):
+    channels = header_of(source)
+    packets = list(iter(lambda: next_packet(source, channels), None))
+    if source.number(4) != len(packets) or source.at != len(content):
         raise Problem("the trace has no end mark")
-    return trace
+    return Trace(channels, packets)
 
 
 def ended(content):
     """The bytes up to the last whole packet with an end mark, and how many packets they have."""
-    source = Bytes(content)
-    trace, whole = Trace(*header_of(source), [], []), source.at
+    source, count = Bytes(content), 0
+    channels = header_of(source)
+    whole = source.at
     try:
-        while next_packet(source, trace):
-            whole = source.at
+        while next_packet(source, channels):
+            whole, count = source.at, count + 1
     except Problem:
         pass
-    return content[:whole] + b"\0" + len(trace.packets).to_bytes(4, "big"), len(trace.packets)
+    return content[:whole] + b"\0" + count.to_bytes(4, "big"), count
 
 
 def read_file(path):
@@ -106,37 +142,64 @@ def read_file(path):
         raise Problem(f"{path}: {problem}") from problem
 
 
-def decoded(content):
-    """The channels, and the packets as (starts with contents by name, names of those that end)."""
-    trace = read(content)
-    return trace.channels, trace.packets
+def packets_of(rows):
+    """The packets of rows, which are (starts with contents by name, names of those that end): one of each row with an event."""
+    found, end = [], 0
+    for cycle, (starts, ends) in enumerate(rows):
+        if starts or ends:
+            found.append(Packet(starts, ends, cycle - end))
+            end = cycle + 1
+    return found
 
 
-def encoded(channels, packets, gaps=None):
-    """The bytes of a trace with these channels and packets: of version 2 where there are gaps."""
-    out, size = bytearray(b"VIDITRC1" if gaps is None else b"VIDITRC2") + bytes([len(channels)]), (len(channels) + 7) // 8
+def header(channels):
+    """The bytes of a trace's header."""
+    table = MAGIC + bytes([len(checked(channels))])
     for channel in channels:
-        out += bytes([not channel.is_inward, len(channel.name)]) + channel.name.encode() + bytes([len(channel.widths), *channel.widths])
-    for number, (started, ended) in enumerate(packets):
-        starts = sum(1 << at for at, channel in enumerate(channels) if channel.name in started)
-        ends = sum(1 << at for at, channel in enumerate(channels) if channel.name in ended)
-        gap = b"" if gaps is None else gaps[number].to_bytes(2, "big")
-        out += b"\1" + gap + starts.to_bytes(size, "little") + ends.to_bytes(size, "little")
+        table += bytes([not channel.is_inward, len(channel.name)]) + channel.name.encode() + bytes([len(channel.widths), *channel.widths])
+    return table
+
+
+def encoded(channels, packets):
+    """The bytes of a trace with these channels and packets."""
+    out, size = bytearray(header(channels)), (len(channels) + 7) // 8
+    for packet in packets:
+        out += bytes([RESET if packet.is_reset else ROW]) + packet.gap.to_bytes(2, "big")
+        for names in () if packet.is_reset else (packet.starts, packet.ends):
+            out += sum(1 << at for at, channel in enumerate(channels) if channel.name in names).to_bytes(size, "little")
         for channel in channels:
-            for width, value in zip(channel.widths, started.get(channel.name, [])):
+            for width, value in zip(channel.widths, packet.starts.get(channel.name, [])):
                 out += value.to_bytes((width + 7) // 8, "big")
     return bytes(out + b"\0" + len(packets).to_bytes(4, "big"))
 
 
+def digits_of(content):
+    """The bytes in hexadecimal digits, in lines of 40."""
+    return "".join(f"{content[at:at + 40].hex()}\n" for at in range(0, len(content), 40))
+
+
+def lines_of(trace):
+    """The lines of `vidi dump`, of a trace without a reset."""
+    lines, done = [], {channel.name: 0 for channel in trace.channels}
+    for number, channel in enumerate(trace.channels):
+        lines.append(" ".join(map(str, ("channel", number, "in" if channel.is_inward else "out", channel.name, *channel.widths))))
+    for number, packet in enumerate(trace.packets):
+        clock = " ".join(map(str, ("clock", *done.values())))
+        lines += [" ".join(map(str, (number, "start", name, *content, clock))) for name, content in packet.starts.items()]
+        lines += [f"{number} end {name} {clock}" for name in packet.ends]
+        done.update({name: done[name] + 1 for name in packet.ends})
+    return lines + [f"packets {len(trace.packets)}"]
+
+
 def drawn(draw, channels, count):
-    """Packets by chance: on each channel starts and completions by turns."""
+    """Packets by chance: on each channel starts and completions by turns, and gaps of any length."""
     flying, packets = set(), []
     for _ in range(count):
         started = {channel.name: [draw.getrandbits(width) for width in channel.widths]
                    for channel in channels if channel.name not in flying and draw.random() < 0.4}
         ended = [channel.name for channel in channels if channel.name in flying | set(started) and draw.random() < 0.6]
         flying = (flying | set(started)) - set(ended)
-        packets += [(started, ended)] if started or ended else []
+        packets += [Packet(started, ended, draw.choice([0, 0, 0, 1, 300, MOST_GAP]))] if started or ended else []
     return packets
 
 
@@ -146,10 +209,10 @@ def covered(clock, have):
 
 
 def histories(names, packets):
-    """For each channel its starts, as (content, clock), and its completions, as clocks. A clock is the list of all channels' completions in
-    the packets before."""
+    """For each channel its starts, as (content, clock), and its completions, as clocks, where there is no reset. A clock is the list of all channels'
+    completions in the packets before."""
     done, starts, ends = {name: 0 for name in names}, {name: [] for name in names}, {name: [] for name in names}
-    for started, ended in packets:
+    for started, ended, *_ in packets:
         clock = list(done.values())
         for name, content in started.items():
             starts[name].append((content, clock))

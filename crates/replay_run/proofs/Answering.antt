@@ -10,7 +10,8 @@ use Rattle.trace_code.specs.trace_model.Channel.{IsTable}
 use Rattle.trace_code.specs.trace_model.Recording.{trace_of}
 use Rattle.trace_code.specs.trace_model.Row.{row_before}
 use Rattle.trace_code.specs.trace_model.Trace.{IsWellFormed}
-use Rattle.trace_code.specs.Encoding.{encode, HasEncoding}
+use Rattle.trace_code.specs.Encoding.{encode, Encodes, HasEncoding}
+use Rattle.trace_code.specs.NoReset.{HasNoReset}
 use Rattle.net_design.specs.declared.design.Design.{Design}
 use Rattle.net_design.specs.declared.values.Values.{Values}
 use Rattle.run_stage.specs.chan_map.declared.pins.Map.{Map}
@@ -26,7 +27,8 @@ use Rattle.replay_run.specs.Lists.{IsKept}
 use Rattle.replay_run.specs.Replaying.{EndsAs, GoesInNoCircle, IsReplayed}
 use Rattle.replay_run.specs.Standing.{AreKept}
 use Rattle.replay_run.proofs.Playing.{balance, flight-last}
-use Rattle.trace_code.proofs.RowBytes.{packets-few}
+use Rattle.trace_code.proofs.Readings.{one_reading}
+use Rattle.trace_code.proofs.RowsBytes.{rows-few}
 
 -- what is kept is what the lists are made of
 pub kept-rows : (d : Design) (m : Map) (packets : List Packet) (runs : Design → Values → List Row → Type 0) (rows : List Row) (n : ℕ)
@@ -48,32 +50,37 @@ few-rows d m packets n rows (Short helds events) (e, held_are, waits_are) = let 
 few-rows d m packets n rows (Unstable channel cycle) (e, same) = let l = e.within in omega (arith, l)
 
 no-circle-in : (d : Design) (m : Map) (packets : List Packet) (n : ℕ) (rows : List Row) (o : ReplayOutcome)
-    → IsWellFormed (record { channels = m.channels; packets = packets }) → EndsAs d m packets n rows o
+    → IsWellFormed (record { channels = m.channels; packets = packets }) → HasNoReset packets → EndsAs d m packets n rows o
     → GoesInNoCircle m.channels packets rows o
-no-circle-in d m packets n rows (Ended cycles) well ends = _
-no-circle-in d m packets n rows (Short helds events) well (e, held_are, waits_are) =
-    let law = no-circle d m packets rows well e.played e.stable e.not_ended in
+no-circle-in d m packets n rows (Ended cycles) well none ends = _
+no-circle-in d m packets n rows (Short helds events) well none (e, held_are, waits_are) =
+    let law = no-circle d m packets rows well none e.played e.stable e.not_ended in
     (law.0.0, law.0.1, law.1 law.0.0 law.0.1)
-no-circle-in d m packets n rows (Unstable channel cycle) well ends = _
+no-circle-in d m packets n rows (Unstable channel cycle) well none ends = _
+
+-- the one trace of these bytes has no reset
+pub no-reset-in : (bytes : List ℕ) (t : Trace) → ((u : Trace) × Encodes u bytes × HasNoReset u.packets) → Encodes t bytes → HasNoReset t.packets
+no-reset-in bytes t given encodes =
+    subst (λ (u : Trace). HasNoReset u.packets) (one_reading bytes given.0 t given.1 encodes) given.2
 
 well-formed : (t : Trace) (channels : List Channel) → t.channels ≡ channels → HasEncoding t
     → IsWellFormed (record { channels = channels; packets = t.packets })
 well-formed t channels e has = subst (λ (cs : List Channel). IsWellFormed (record { channels = cs; packets = t.packets })) e has.well_formed
 
 pub replayed : (d : Design) (m : Map) (t : Trace) (n : ℕ) (runs : Design → Values → List Row → Type 0) (last : Row) (rows : List Row)
-    (answer : Replayed) → t.channels ≡ m.channels → HasEncoding t → n ≤ MOST_CYCLES → Plays d m (IsReplayRow m.channels t.packets) runs last rows
+    (answer : Replayed) → t.channels ≡ m.channels → HasEncoding t → HasNoReset t.packets → n ≤ MOST_CYCLES → Plays d m (IsReplayRow m.channels t.packets) runs last rows
     → EndsAs d m t.packets n rows answer.outcome → answer.out ≡ encode (trace_of m.channels rows) → IsReplayed d m t.packets n runs answer
-replayed d m t n runs last rows answer same has small at ends out =
+replayed d m t n runs last rows answer same has none small at ends out =
     let laws = replay-keeps_contents d m t.packets rows at.played at.stable in
     let few = few-rows d m t.packets n rows answer.outcome ends in
-    let packets = packets-few m.channels rows in
+    let packets = rows-few m.channels rows in
     record {
       rows = rows;
       ends = ends;
       out = (
         record {
           table = subst IsTable same has.table;
-          well_formed = laws.1;
+          well_formed = laws.1 (omega (arith, few, small));
           few = omega (arith, few, packets, small);
         },
         sym out,
@@ -82,5 +89,5 @@ replayed d m t n runs last rows answer same has small at ends out =
       stands = at.at;
       order = order-in_the_output d m t.packets rows at.played at.stable;
       contents = laws.0;
-      free = no-circle-in d m t.packets n rows answer.outcome (well-formed t m.channels same has) ends;
+      free = no-circle-in d m t.packets n rows answer.outcome (well-formed t m.channels same has) none ends;
     }

@@ -16,7 +16,6 @@ use Rattle.trace_code.specs.trace_model.declared.channel.Dir.TheVariants.{Inward
 use Rattle.trace_code.specs.trace_model.declared.packet.Packet.{Packet}
 use Rattle.trace_code.specs.trace_model.declared.trace.Trace.{Trace}
 use Rattle.trace_code.specs.trace_model.Channel.{IsChannel, IsTable}
-use Rattle.trace_code.specs.trace_model.Clock.{clock}
 use Rattle.trace_code.specs.trace_model.Counting.{IsNth}
 use Rattle.trace_code.specs.trace_model.Packet.{content_of, count, does, widths_of, Fit, IsPacket}
 use Rattle.trace_code.specs.trace_model.Row.{all_widths, content_at, replaced}
@@ -25,6 +24,7 @@ use Rattle.trace_code.proofs.trace_model_lemmas.CountingLemmas.{nth, nth-below}
 use Rattle.trace_code.proofs.trace_model_lemmas.MaskLemmas.{no-bit-from-has}
 use Rattle.trace_code.proofs.trace_model_lemmas.RowLemmas.{first_of, first-more, replaced-more}
 use Rattle.trace_code.specs.declared.cursor.Cursor.{Cursor}
+use Rattle.trace_code.specs.NoReset.{HasNoReset}
 use Rattle.trace_code.specs.Stands.{Stands}
 use Rattle.run_stage.proofs.chan_replayer_lemmas.FedOffers.{named-within}
 use Rattle.run_stage.proofs.run_model_lemmas.Contents.{fit-zeros, has-all}
@@ -32,8 +32,10 @@ use Rattle.run_stage.proofs.run_model_lemmas.PinLemmas.{all-at}
 use Rattle.run_stage.specs.chan_replayer.declared.feed.Feed.{Feed}
 use Rattle.run_stage.specs.chan_replayer.Feed.{kind_of, need_of, IsFeed, IsFeedAt, IsFeedOver}
 use Rattle.replay_run.specs.declared.cursors.Cursors.{Cursors}
-use Rattle.replay_run.specs.Behind.{AreBehind, IsBehind}
+use Rattle.replay_run.specs.Behind.{epoch_clock, AreBehind, IsBehind}
 use Rattle.replay_run.specs.Feeding.{IsBeside, IsChannelFed, IsClockAt, IsFeedBut, IsSameAt}
+use Rattle.replay_run.proofs.Forward as forward
+use Rattle.replay_run.proofs.Forward.{clock-whole}
 use Rattle.replay_run.proofs.Placing.{content-here, content-other, fit-replaced, room-at, still-below}
 
 -- ---- a content
@@ -120,12 +122,12 @@ module _ (channels : List Channel) (t : Trace) (kind : Kind) (c n : ℕ) (k : Cu
     (is : IsBehind t kind c n k) (more : has new.more c ≡ r)
     (there : (j : ℕ) → Stands k t j → (r ≡ true) ↔ (j < count k.kind k.channel t.packets))
     (need : (j p : ℕ) (packet : Packet) → Stands k t j → IsNth (does k.kind k.channel) t.packets j p packet
-    → (d : ℕ) → d < length channels → need_of (length channels) new c d ≡ clock t.packets p d) where
+    → (d : ℕ) → d < length channels → need_of (length channels) new c d ≡ epoch_clock t.packets p d) where
   pub fed-at : ((p : ℕ) (packet : Packet) → IsNth (does kind c) t.packets n p packet → kind ≡ Start
       → content_at channels new.contents c ≡ content_of channels packet c) → IsFeedAt channels t.packets kind c n new
   fed-at content = record {
     more = (let s = there-is t kind c n k r is there in (λ e. s.0 (sym more ∙ e), λ l. more ∙ s.1 l));
-    need = λ p packet at d l. (let o = own-nth t kind c n p k packet is at in need n p packet o.0 o.1 d l);
+    need = λ p packet at d l. (let o = own-nth t kind c n p k packet is at in need n p packet o.0 o.1 d l ∙ clock-whole t.packets p d is.no_reset);
     content = content;
   }
 
@@ -133,7 +135,7 @@ pub fed-end : (channels : List Channel) (t : Trace) (c n : ℕ) (k : Cursor) (ne
     → IsBehind t End c n k → has new.more c ≡ r
     → ((j : ℕ) → Stands k t j → (r ≡ true) ↔ (j < count k.kind k.channel t.packets))
     → ((j p : ℕ) (packet : Packet) → Stands k t j → IsNth (does k.kind k.channel) t.packets j p packet
-    → (d : ℕ) → d < length channels → need_of (length channels) new c d ≡ clock t.packets p d) → IsFeedAt channels t.packets End c n new
+    → (d : ℕ) → d < length channels → need_of (length channels) new c d ≡ epoch_clock t.packets p d) → IsFeedAt channels t.packets End c n new
 fed-end channels t c n k new r same is more there need =
     fed-at channels t End c n k new r same is more there need (λ p packet at e. absurd (End≢Start e))
   where
@@ -145,7 +147,7 @@ pub fed-none : (channels : List Channel) (t : Trace) (c n : ℕ) (k : Cursor) (n
     → IsBehind t Start c n k → has new.more c ≡ r → r ≡ false
     → ((j : ℕ) → Stands k t j → (r ≡ true) ↔ (j < count k.kind k.channel t.packets))
     → ((j p : ℕ) (packet : Packet) → Stands k t j → IsNth (does k.kind k.channel) t.packets j p packet
-    → (d : ℕ) → d < length channels → need_of (length channels) new c d ≡ clock t.packets p d) → IsFeedAt channels t.packets Start c n new
+    → (d : ℕ) → d < length channels → need_of (length channels) new c d ≡ epoch_clock t.packets p d) → IsFeedAt channels t.packets Start c n new
 fed-none channels t c n k new r same is more down there need =
     fed-at channels t Start c n k new r same is more there need (λ p packet at e.
     absurd (false≢true (sym down ∙ (there-is t Start c n k r is there).1 (nth-below (does Start c) t.packets n p packet at))))
@@ -223,7 +225,7 @@ pub record IsEventFed (right : Trace → Type 0) (k : Cursor) (n c : ℕ) (r : B
   pub more : has new.more c ≡ r
   pub there : (t : Trace) (j : ℕ) → Stands k t j → (r ≡ true) ↔ (j < count k.kind k.channel t.packets)
   pub need : (t : Trace) (j p : ℕ) (packet : Packet) → right t → Stands k t j → n ≡ length t.channels → IsNth (does k.kind k.channel) t.packets j p packet
-      → (d : ℕ) → d < n → need_of n new c d ≡ clock t.packets p d
+      → (d : ℕ) → d < n → need_of n new c d ≡ epoch_clock t.packets p d
   pub other_more : (d : ℕ) → d ≢ c → has new.more d ≡ has old.more d
   pub other_needs : (d e : ℕ) → d ≢ c → e < n → need_of n new d e ≡ need_of n old d e
   pub needs : length new.needs ≡ n * n
@@ -249,7 +251,7 @@ module _ (right : Trace → Type 0) (channels : List Channel) (k : Cursor) (n c 
   }
 
   need-fed : (t : Trace) → right t → t.channels ≡ channels → (j p : ℕ) (packet : Packet) → Stands k t j → IsNth (does k.kind k.channel) t.packets j p packet
-      → (d : ℕ) → d < length channels → need_of (length channels) mid c d ≡ clock t.packets p d
+      → (d : ℕ) → d < length channels → need_of (length channels) mid c d ≡ epoch_clock t.packets p d
   need-fed t is-right same j p packet st nth-is d l = own.need t j p packet is-right st (sym (ap length same)) nth-is d l
 
   pub end-here : (t : Trace) (i : ℕ) → right t → IsBehind t End c i k → t.channels ≡ channels → IsFeedAt channels t.packets End c i mid
@@ -353,10 +355,12 @@ beside-is t have b kind x k o there e is says y at i p packet st nth-is =
 
 -- its clock is that of the event at which the cursor stands
 pub clock-beside : (channels : List Channel) (t : Trace) (have : ℕ → ℕ) (b : ℕ) (feed : Feed) (k : Cursor) → t.channels ≡ channels
-    → b < length channels → IsBeside t have k b → IsChannelFed channels t.packets have b feed → IsClockAt t k (length channels) feed.needs b
-clock-beside channels t have b feed k same l is fed j p packet st nth-is d m = ⊎_elim
+    → b < length channels → HasNoReset t.packets → IsBeside t have k b → IsChannelFed channels t.packets have b feed
+    → IsClockAt t k (length channels) feed.needs b
+clock-beside channels t have b feed k same l none is fed j p packet st nth-is d m = ⊎_elim
     (λ (h : (x : Channel) × (b < length channels) × (slice_get channels b ≡ Some x) × (get_or channels b x ≡ x)).
-    (fed h.0 h.2).need p packet (is h.0 (ap (λ (cs : List Channel). slice_get cs b) same ∙ h.2) j p packet st nth-is) d m)
+    (fed h.0 h.2).need p packet (is h.0 (ap (λ (cs : List Channel). slice_get cs b) same ∙ h.2) j p packet st nth-is) d m
+    ∙ sym (clock-whole t.packets p d none))
     (λ (h : (length channels ≤ b) × (slice_get channels b ≡ None)). absurd (let past = h.0 in omega (arith, past, l)))
     (slice_get_cases channels b).1
 
@@ -450,5 +454,8 @@ pub clocks-beside : (channels : List Channel) (t : Trace) (have : ℕ → ℕ) (
     → IfSome o (λ b. (u : Trace) (h : ℕ → ℕ) → AreBehind u h cursors → u.channels ≡ channels → IsBeside u h k b) → AreBehind t have cursors → IfSome o (IsClockAt t k (length channels) feed.needs)
 clocks-beside channels t have more left fed feed cursors k None same small each but is beside are = tt
 clocks-beside channels t have more left fed feed cursors k (Some b) same small each but is beside are =
-    clock-beside channels t have b feed k same (named-within more (length channels) b small (within-without (has more b) (has left b) (has fed b) (each b) is))
-    (beside t have are same) (but b (not-without (has more b) (has left b) (has fed b) (each b) is))
+    let within = named-within more (length channels) b small (within-without (has more b) (has left b) (has fed b) (each b) is) in
+    let behind = forward.there-is t Start have cursors.starts.cursors.items cursors.starts.more b are.starts
+    (subst (λ (cs : List Channel). b < length cs) (sym same) within) in
+    clock-beside channels t have b feed k same within behind.1.no_reset (beside t have are same)
+    (but b (not-without (has more b) (has left b) (has fed b) (each b) is))

@@ -1,28 +1,29 @@
 -- Cursors behind so many completions.
-use Rattle.std.proofs.Common.{◌≡◌, ◌≢◌, ◌&&◌, ℕ, suc, ◌+◌, ◌*◌, ◌^◌, ◌<◌, ◌≤◌, min, bit_and, Bool, true, false, not, cond, List, [], ◌∷◌, ◌++◌, Some, None, All, length, take, drop, get_or, set, slice_get, ltb, refl, sym, ap, subst, ◌∙◌, arith, ⊎_elim}
+use Rattle.std.proofs.Common.{◌≡◌, ◌≢◌, ◌&&◌, ℕ, suc, ◌+◌, ◌*◌, ◌^◌, ◌<◌, ◌≤◌, min, bit_and, Bool, true, false, not, cond, List, [], ◌∷◌, ◌++◌, Some, None, length, take, drop, get_or, set, slice_get, ltb, refl, sym, ap, subst, ◌∙◌, arith, ⊎_elim}
 use Rattle.std.specs.Prelude.{◌↔◌}
 use Rattle.std.proofs.lemmas.Bool.{cases_Bool, cases_lt, false≢true}
 use Rattle.std.proofs.lemmas.Nat.Bits.{bit_at-zero, bit_at_above, same_from_bits}
 use Rattle.trace_code.specs.trace_model.declared.event.Kind.{Kind}
-use Rattle.trace_code.specs.trace_model.declared.channel.Channel.{Channel}
 use Rattle.trace_code.specs.trace_model.declared.event.Kind.TheVariants.{Start, End, Reset}
 use Rattle.trace_code.specs.trace_model.declared.packet.Packet.{Packet}
 use Rattle.trace_code.specs.trace_model.declared.row.Row.{Row}
 use Rattle.trace_code.specs.trace_model.declared.trace.Trace.{Trace}
-use Rattle.trace_code.specs.trace_model.Packet.{count, does, IsPacket}
+use Rattle.trace_code.specs.trace_model.Clock.{clock}
+use Rattle.trace_code.specs.trace_model.Packet.{count}
 use Rattle.trace_code.specs.trace_model.Row.{is_in_flight}
 use Rattle.trace_code.specs.trace_model.Trace.{Alternates}
 use Rattle.trace_code.proofs.trace_model_lemmas.FlightLemmas.{balanced-all}
-use Rattle.trace_code.proofs.trace_model_lemmas.CountingLemmas.{nth, slice_get-push}
+use Rattle.trace_code.proofs.trace_model_lemmas.CountingLemmas.{slice_get-push}
 use Rattle.run_stage.proofs.chan_replayer_lemmas.FedOffers.{one-below, other-bit, top-bit}
 use Rattle.run_stage.proofs.chan_replayer_lemmas.Masks.{has-and}
-use Rattle.run_stage.proofs.run_model_lemmas.PinLemmas.{all-at}
 use Rattle.replay_run.proofs.Placing.{still-below}
 use Rattle.trace_code.specs.declared.cursor.Cursor.{Cursor}
 use Rattle.trace_code.specs.Encoding.{Encodes}
+use Rattle.trace_code.specs.NoReset.{HasNoReset}
 use Rattle.trace_code.specs.Stands.{Stands, WalksOver}
+use Rattle.trace_code.proofs.NoReset.{alternates-whole, since-front}
 use Rattle.replay_run.specs.declared.cursors.Cursors.{Cursors}
-use Rattle.replay_run.specs.Behind.{AreAt, AreBehind, IsBehind, IsDone}
+use Rattle.replay_run.specs.Behind.{epoch_clock, AreAt, AreBehind, EncodesPlain, IsBehind, IsDone}
 use Rattle.std.specs.Int.{bit_at}
 use Rattle.std.proofs.Math.ListN.{length-set}
 use Rattle.trace_code.specs.vidi_bits.Number.{has}
@@ -73,12 +74,13 @@ next t kind c n k new is l over goes =
     record {
       over = (over.0 ∙ is.over.0, over.1 ∙ is.over.1);
       stands = subst (Stands new t) here (goes (min n (count kind c t.packets)) is.stands (omega (arith, l, same)));
+      no_reset = is.no_reset;
     }
 
 pub stays : (t : Trace) (kind : Kind) (c n : ℕ) (k : Cursor) → IsBehind t kind c n k → count kind c t.packets ≤ n → IsBehind t kind c (n + 1) k
 stays t kind c n k is l =
     let here : min n (count kind c t.packets) ≡ min (n + 1) (count kind c t.packets) = omega (arith, l) in
-    record { over = is.over; stands = subst (Stands k t) here is.stands }
+    record { over = is.over; stands = subst (Stands k t) here is.stands; no_reset = is.no_reset }
 
 pub may-step : (t : Trace) (kind : Kind) (c n : ℕ) (k : Cursor) → IsBehind t kind c n k → n < count kind c t.packets
     → min n (count kind c t.packets) < count k.kind k.channel t.packets
@@ -207,27 +209,27 @@ whole n xs ys e = ap (λ k. take k (xs ++ drop (length xs) ys)) (sym e) ∙ take
 -- ---- before anything has completed
 pub opened-more : (kind : Kind) (bytes : List ℕ) (n : ℕ) (cursors new : List Cursor) (k : Cursor) → length cursors ≡ n
     → new ≡ cursors ++ k ∷ [] → WalksOver k kind n → ((t : Trace) → Encodes t bytes → Stands k t 0)
-    → ((t : Trace) → Encodes t bytes → (d : ℕ) (i : Cursor) → slice_get cursors d ≡ Some i → IsBehind t kind d 0 i)
-    → (t : Trace) → Encodes t bytes → (d : ℕ) (i : Cursor) → slice_get new d ≡ Some i → IsBehind t kind d 0 i
+    → ((t : Trace) → EncodesPlain t bytes → (d : ℕ) (i : Cursor) → slice_get cursors d ≡ Some i → IsBehind t kind d 0 i)
+    → (t : Trace) → EncodesPlain t bytes → (d : ℕ) (i : Cursor) → slice_get new d ≡ Some i → IsBehind t kind d 0 i
 opened-more kind bytes n cursors new k long e over stands each t is d i at = ⊎_elim
     (λ (a : (d < length cursors) × (slice_get cursors d ≡ Some i)). each t is d i a.1)
     (λ (a : (d ≡ length cursors) × (k ≡ i)).
     let here : n ≡ d = sym (a.0 ∙ long) in
     let none : 0 ≡ min 0 (count kind n t.packets) = omega arith in
     subst (λ m. IsBehind t kind m 0 i) here (subst (IsBehind t kind n 0) a.1
-    (record { over = over; stands = subst (Stands k t) none (stands t is) })))
+    (record { over = over; stands = subst (Stands k t) none (stands t is.0); no_reset = is.1 })))
     (slice_get-push cursors k i d (ap (λ ks. slice_get ks d) (sym e) ∙ at))
 
 -- a mask of one channel more
 pub named-more : (kind : Kind) (bytes : List ℕ) (n mask new : ℕ) (k : Cursor) (r : Bool) → mask < 2 ^ n → new ≡ cond (not r) 1 0 * 2 ^ n + mask
     → WalksOver k kind n → ((t : Trace) → Encodes t bytes → Stands k t 0)
     → ((t : Trace) (j : ℕ) → Stands k t j → (r ≡ true) ↔ (count k.kind k.channel t.packets ≤ j))
-    → ((t : Trace) → Encodes t bytes → (d : ℕ) → d < n → (has mask d ≡ true) ↔ (0 < count kind d t.packets))
-    → (t : Trace) → Encodes t bytes → (d : ℕ) → d < n + 1 → (has new d ≡ true) ↔ (0 < count kind d t.packets)
+    → ((t : Trace) → EncodesPlain t bytes → (d : ℕ) → d < n → (has mask d ≡ true) ↔ (0 < count kind d t.packets))
+    → (t : Trace) → EncodesPlain t bytes → (d : ℕ) → d < n + 1 → (has new d ≡ true) ↔ (0 < count kind d t.packets)
 named-more kind bytes n mask new k r small e over stands says each t is d l = ⊎_elim
     (λ (here : d ≡ n).
     let none : 0 ≡ min 0 (count kind n t.packets) = omega arith in
-    let behind : IsBehind t kind n 0 k = record { over = over; stands = subst (Stands k t) none (stands t is) } in
+    let behind : IsBehind t kind n 0 k = record { over = over; stands = subst (Stands k t) none (stands t is.0); no_reset = is.1 } in
     subst (λ i. (has new i ≡ true) ↔ (0 < count kind i t.packets)) (sym here)
     (along (not r) (has new n) (ap (λ m. has m n) e ∙ top-bit (not r) n mask small)
     (further t kind n 0 r (ended-when t kind n 0 k r behind (says t)))))
@@ -241,15 +243,9 @@ named-below n mask new r small e =
     let s : n + 1 ≡ suc n = omega arith in
     subst (λ m. new < 2 ^ m) (sym s) (subst (λ m. m < 2 ^ suc n) (sym e) l)
 
--- ---- a trace has no resets
-pub no-reset : (channels : List Channel) (packets : List Packet) (c : ℕ) → All (IsPacket channels) packets → count Reset c packets ≡ 0
-no-reset channels packets c all = ⊎_elim
-    (λ (l : 0 < count Reset c packets).
-    let found = nth (does Reset c) packets 0 l in
-    let one = all-at (IsPacket channels) packets found.place found.item all found.is.at in
-    absurd (false≢true (sym one.plain.1 ∙ found.is.passes)))
-    (λ (l : count Reset c packets ≤ 0). omega (arith, l))
-    (cases_lt 0 (count Reset c packets))
+-- ---- where no packet is a reset
+pub clock-whole : (packets : List Packet) (p channel : ℕ) → HasNoReset packets → epoch_clock packets p channel ≡ clock packets p channel
+clock-whole packets p channel none = ap (count End channel) (since-front p packets none)
 
 -- ---- whether the trace has ended, by masks
 flight-flag : (v g r : Bool) → ((v && g) && not r) ≡ ((v && g) && not ((v && g) && r))
@@ -274,7 +270,7 @@ zero-when mask n small none = same_from_bits mask 0 (λ c. ⊎_elim
     (cases_lt c n) ∙ sym (bit_at-zero c))
 
 -- a cursor of this kind on a channel that is there
-there-is : (t : Trace) (kind : Kind) (have : ℕ → ℕ) (cursors : List Cursor) (mask c : ℕ) → AreAt t kind have cursors mask → c < length t.channels
+pub there-is : (t : Trace) (kind : Kind) (have : ℕ → ℕ) (cursors : List Cursor) (mask c : ℕ) → AreAt t kind have cursors mask → c < length t.channels
     → (k : Cursor) × IsBehind t kind c (have c) k
 there-is t kind have cursors mask c are l = ⊎_elim {C = (k : Cursor) × IsBehind t kind c (have c) k}
     (λ (h : (k : Cursor) × (c < length cursors) × (slice_get cursors c ≡ Some k) × (get_or cursors c k ≡ k)). (h.0, are.each c h.0 h.2))
@@ -301,14 +297,15 @@ module _ (t : Trace) (have : ℕ → ℕ) (cursors : Cursors) (last : Row) (are 
 pub no-resets : (t : Trace) (have : ℕ → ℕ) (cursors : Cursors) → AreBehind t have cursors → (c : ℕ) → c < length t.channels
     → count Reset c t.packets ≡ 0
 no-resets t have cursors are c l =
-    let k = there-is t End have cursors.ends.cursors.items cursors.ends.more c are.ends l in
-    no-reset t.channels t.packets c k.1.stands.0.at.encoding.well_formed.packets
+    let k = there-is t End have cursors.ends.cursors.items cursors.ends.more c are.ends l in k.1.no_reset
 
 -- `idle` names the channels that have a further start and aren't in flight
 module _ (t : Trace) (have : ℕ → ℕ) (cursors : Cursors) (last : Row) (flight idle : ℕ) (are : AreBehind t have cursors)
     (is : (c : ℕ) → has flight c ≡ is_in_flight last c) (both : (c : ℕ) → has idle c ≡ (has cursors.starts.more c && not (has flight c))) where
   alternate : (c : ℕ) → c < length t.channels → Alternates t.packets
-  alternate c l = let k = there-is t End have cursors.ends.cursors.items cursors.ends.more c are.ends l in k.1.stands.0.at.encoding.well_formed.alternate
+  alternate c l =
+      let k = there-is t End have cursors.ends.cursors.items cursors.ends.more c are.ends l in
+      alternates-whole t.packets k.1.no_reset k.1.stands.0.at.encoding.well_formed.alternate
 
   idle-is : (c : ℕ) → is_in_flight last c ≡ false → has idle c ≡ has cursors.starts.more c
   idle-is c f = both c ∙ ap (λ b. has cursors.starts.more c && not b) (is c ∙ f) ∙ and-true (has cursors.starts.more c)

@@ -27,9 +27,9 @@ use Rattle.run_stage.specs.run_model.declared.held.Held.{Held}
 use Rattle.run_stage.specs.run_model.Held.{await_on, awaits, controlled, event, flies, held_at, held_event, held_if, is_held, next_event, packet_place, recorded_next}
 use Rattle.run_stage.specs.run_model.Replay.{done}
 use Rattle.run_stage.proofs.run_model_lemmas.EventPlaces.{nth-place, place-is}
-use Rattle.replay_run.specs.Behind.{IsBehind}
+use Rattle.replay_run.specs.Behind.{epoch_clock, IsBehind}
 use Rattle.replay_run.specs.Lists.{AreSpare}
-use Rattle.replay_run.proofs.Forward.{ended-when, more}
+use Rattle.replay_run.proofs.Forward.{clock-whole, ended-when, more}
 
 -- ---- a list that is made channel by channel
 pub walk-on : {Y : Type 0} (g : ℕ × Channel → List Y) (channels : List Channel) (c : ℕ) (x : Channel) (out new all : List Y)
@@ -108,7 +108,7 @@ pub event-put : (t : Trace) (rows : List Row) (kind : Kind) (c : ℕ) (k : Curso
     → ((d : ℕ) → d < length channels → slice_index have d ≡ done rows d) → c < length channels → r ≡ false
     → ((j : ℕ) → Stands k t j → (r ≡ true) ↔ (count k.kind k.channel t.packets ≤ j))
     → ((j p : ℕ) (packet : Packet) → Stands k t j → IsNth (does k.kind k.channel) t.packets j p packet
-    → list ≡ awaits channels (slice_index have) (clock t.packets p))
+    → list ≡ awaits channels (slice_index have) (epoch_clock t.packets p))
     → e ≡ event c kind (slice_index have c) → new ≡ out ++ held_if e list
     → new ≡ out ++ held_event channels t.packets rows (event c kind (done rows c))
 event-put t rows kind c k channels have r e list out new is counts within past says listed event-is n =
@@ -120,6 +120,7 @@ event-put t rows kind c k channels have r e list out new is counts within past s
     subst (λ (i : Kind). IsNth (does i k.channel) t.packets k-is found.place found.item) (sym is.over.0)
     (subst (λ d. IsNth (does kind d) t.packets k-is found.place found.item) (sym is.over.1) found.is) in
     let all = listed k-is found.place found.item (subst (Stands k t) at is.stands) own
+    ∙ ap (awaits channels (slice_index have)) (λ i d. clock-whole t.packets found.place d is.no_reset i)
     ∙ awaits-same channels (slice_index have) (done rows) (clock t.packets found.place) counts in
     let here : e ≡ event c kind k-is = event-is ∙ ap (event c kind) (counts c within) in
     n ∙ ap (λ xs. out ++ xs) (ap (λ z. held_if z list) here ∙ ap (held_if (event c kind k-is)) all

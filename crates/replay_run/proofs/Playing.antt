@@ -16,7 +16,7 @@ use Rattle.trace_code.specs.trace_model.declared.trace.Trace.{Trace}
 use Rattle.trace_code.specs.trace_model.Packet.{count}
 use Rattle.trace_code.specs.trace_model.Recording.{row_does, shown}
 use Rattle.trace_code.specs.trace_model.Row.{flies_after, is_in_flight, row_before}
-use Rattle.trace_code.proofs.trace_model_lemmas.CountingLemmas.{count-push}
+use Rattle.trace_code.proofs.trace_model_lemmas.CountingLemmas.{count-push, slice_get-last}
 use Rattle.trace_code.proofs.trace_model_lemmas.MaskLemmas.{cond-has}
 use Rattle.trace_code.proofs.trace_model_lemmas.RowLaws.{counted}
 use Rattle.net_design.specs.declared.design.Design.{Design}
@@ -151,6 +151,12 @@ module _ (first : Feeder) (m : Map) (same : first.map.now ≡ m) (t : Trace) (is
   )
 
 -- ---- one row more
+pub last-unmarked : (first : Feeder) (rows : List Row) (row : Row) (t : Trace) → IsAt t [] first
+    → AreRuled first.map.now (IsNextRow first) (rows ++ row ∷ []) → row.fresh ≡ false
+last-unmarked first rows row t opened ruled = ∥∥₁_elim ruled.played (hlevel props)
+    (λ (x : (d : Design) × IsPlayed d first.map.now (IsNextRow first) (rows ++ row ∷ [])).
+    (x.1.ruled (length rows) row (slice_get-last rows row) t opened).2)
+
 pub done-push : (rows : List Row) (row : Row) (ends : ℕ) → ends ≡ row.ends → (λ (c : ℕ). done rows c + bit_at ends c) ≡ done (rows ++ row ∷ [])
 done-push rows row ends e = λ i c. one c i
   where

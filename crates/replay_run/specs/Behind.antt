@@ -1,21 +1,33 @@
 -- Cursors behind so many completions of each channel.
-use Rattle.std.specs.Prelude.{◌≡◌, ℕ, ◌+◌, ◌^◌, ◌<◌, ◌≤◌, ◌↔◌, true, min, if◌then◌else◌, List, Some, length, slice_get}
+use Rattle.std.specs.Prelude.{◌≡◌, ℕ, ◌+◌, ◌^◌, ◌<◌, ◌≤◌, ◌↔◌, true, min, if◌then◌else◌, List, Some, length, slice_get, take}
 use Rattle.trace_code.specs.vidi_bits.Number.{has}
 use Rattle.trace_code.specs.trace_model.declared.event.Kind.{Kind}
 use Rattle.trace_code.specs.trace_model.declared.event.Kind.TheVariants.{Start, End}
 use Rattle.trace_code.specs.trace_model.declared.packet.Packet.{Packet}
 use Rattle.trace_code.specs.trace_model.declared.row.Row.{Row}
 use Rattle.trace_code.specs.trace_model.declared.trace.Trace.{Trace}
+use Rattle.trace_code.specs.trace_model.Epoch.{since_reset}
 use Rattle.trace_code.specs.trace_model.Packet.{count}
 use Rattle.trace_code.specs.trace_model.Row.{is_in_flight}
 use Rattle.trace_code.specs.declared.cursor.Cursor.{Cursor}
+use Rattle.trace_code.specs.Encoding.{Encodes}
+use Rattle.trace_code.specs.NoReset.{HasNoReset}
 use Rattle.trace_code.specs.Stands.{Stands, WalksOver}
 use Rattle.replay_run.specs.declared.cursors.Cursors.{Cursors}
 
--- the cursor stands at event n of this kind on channel c, at the end where there is none
+-- the bytes are the encoding of this trace, which has no reset
+abbrev pub EncodesPlain : Trace → List ℕ → Type 0
+EncodesPlain t bytes = Encodes t bytes × HasNoReset t.packets
+
+-- the clock of an event in packet p: for each channel, the completions in the packets of its epoch before p
+abbrev pub epoch_clock : List Packet → ℕ → ℕ → ℕ
+epoch_clock packets p channel = count End channel (since_reset (take p packets))
+
+-- the cursor stands at event n of this kind on channel c, at the end where there is none, in a trace without a reset
 pub record IsBehind (t : Trace) (kind : Kind) (c n : ℕ) (k : Cursor) : Type 0 where
   pub over : WalksOver k kind c
   pub stands : Stands k t (min n (count kind c t.packets))
+  pub no_reset : HasNoReset t.packets
 
 -- one of this kind for each channel, where `have` completions came; the mask names the channels that have a further event
 pub record AreAt (t : Trace) (kind : Kind) (have : ℕ → ℕ) (cursors : List Cursor) (mask : ℕ) : Type 0 where

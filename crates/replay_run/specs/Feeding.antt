@@ -4,7 +4,6 @@ use Rattle.trace_code.specs.vidi_bits.Number.{has}
 use Rattle.trace_code.specs.trace_model.declared.channel.Channel.{Channel}
 use Rattle.trace_code.specs.trace_model.declared.packet.Packet.{Packet}
 use Rattle.trace_code.specs.trace_model.declared.trace.Trace.{Trace}
-use Rattle.trace_code.specs.trace_model.Clock.{clock}
 use Rattle.trace_code.specs.trace_model.Counting.{IsNth}
 use Rattle.trace_code.specs.trace_model.Packet.{does}
 use Rattle.trace_code.specs.trace_model.Row.{content_at}
@@ -12,6 +11,7 @@ use Rattle.trace_code.specs.declared.cursor.Cursor.{Cursor}
 use Rattle.trace_code.specs.Stands.{Stands}
 use Rattle.run_stage.specs.chan_replayer.declared.feed.Feed.{Feed}
 use Rattle.run_stage.specs.chan_replayer.Feed.{kind_of, need_of, IsFeedAt}
+use Rattle.replay_run.specs.Behind.{epoch_clock}
 
 -- two feeds say the same of channel c
 pub record IsSameAt (channels : List Channel) (c : ℕ) (old new : Feed) : Type 0 where
@@ -30,7 +30,7 @@ IsFeedBut mask channels packets have feed = (c : ℕ) → has mask c ≡ false �
 -- clock b of the clocks of n channels is that of the event at which the cursor stands
 abbrev pub IsClockAt : Trace → Cursor → ℕ → List ℕ → ℕ → Type 0
 IsClockAt t k n needs b = (j p : ℕ) (packet : Packet) → Stands k t j → IsNth (does k.kind k.channel) t.packets j p packet
-    → (d : ℕ) → d < n → slice_index needs (n * b + d) ≡ clock t.packets p d
+    → (d : ℕ) → d < n → slice_index needs (n * b + d) ≡ epoch_clock t.packets p d
 
 -- the packet of the event at which the cursor stands has the next event of channel b that the replayers control
 abbrev pub IsBeside : Trace → (ℕ → ℕ) → Cursor → ℕ → Type 0

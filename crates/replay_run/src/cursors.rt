@@ -7,8 +7,7 @@ ghost use Rattle.trace_code.specs.trace_model.declared.trace.Trace.{Trace};
 ghost use Rattle.trace_code.specs.trace_model.Packet.{count};
 ghost use Rattle.trace_code.specs.trace_model.Row.{is_in_flight};
 ghost use Rattle.trace_code.specs.vidi_bits.Number.{has};
-ghost use Rattle.trace_code.specs.Encoding.{Encodes};
-ghost use Rattle.replay_run.specs.Behind.{none_yet, AreAt, AreBehind, IsBehind, IsDone};
+ghost use Rattle.replay_run.specs.Behind.{none_yet, AreAt, AreBehind, EncodesPlain, IsBehind, IsDone};
 
 use crate::bits::{with_bit_as, without};
 use std::alloc::Global;
@@ -61,10 +60,10 @@ fn forward_all(cursors: &mut [Cursor], more: u128, ends: u128) -> u128
 }
 
 impl<'a> Walk<'a> {
-    /// For each of so many channels of a trace, whose encoding the bytes are, a cursor at its first event of this kind.
+    /// For each of so many channels of a trace without a reset, whose encoding the bytes are, a cursor at its first event of this kind.
     fn open(alloc: Global, bytes: &'a [u8], channels: usize, kind: Kind) -> Result<Walk<'a>, Memory>
-        requires { (t : Trace) × Encodes t bytes.now × (channels ≡ length t.channels) }
-        ensures { IfOk result (λ walk. (t : Trace) → Encodes t bytes.now → channels ≡ length t.channels
+        requires { (t : Trace) × EncodesPlain t bytes.now × (channels ≡ length t.channels) }
+        ensures { IfOk result (λ walk. (t : Trace) → EncodesPlain t bytes.now → channels ≡ length t.channels
             → AreAt t kind none_yet walk.cursors.items walk.more) }
     {
         let mut cursors = Vec::with_capacity(alloc, channels)?;
@@ -108,14 +107,14 @@ pub(crate) fn cursor_of<'a, 'b>(cursors: &'a Cursors<'b>, kind: Kind, c: usize) 
 }
 
 impl<'a> Cursors<'a> {
-    /// The cursors of a trace of so many channels, whose encoding the bytes are, before anything has completed.
+    /// The cursors of a trace of so many channels without a reset, whose encoding the bytes are, before anything has completed.
     pub(crate) fn open(
         alloc: Global,
         bytes: &'a [u8],
         channels: usize,
     ) -> Result<Cursors<'a>, Memory>
-        requires { (t : Trace) × Encodes t bytes.now × (channels ≡ length t.channels) }
-        ensures { IfOk result (λ cursors. (t : Trace) → Encodes t bytes.now → channels ≡ length t.channels → AreBehind t none_yet cursors) }
+        requires { (t : Trace) × EncodesPlain t bytes.now × (channels ≡ length t.channels) }
+        ensures { IfOk result (λ cursors. (t : Trace) → EncodesPlain t bytes.now → channels ≡ length t.channels → AreBehind t none_yet cursors) }
     {
         let starts = Walk::open(alloc, bytes, channels, Kind::Start)?;
         let ends = Walk::open(alloc, bytes, channels, Kind::End)?;

@@ -4,7 +4,7 @@ ghost use Rattle.std.specs.Prelude.{◌≡◌, ◌≤◌, [], ℕ, IfOk};
 ghost use Rattle.trace_code.specs.trace_model.declared.packet.TheConstants.{MOST_CYCLES};
 ghost use Rattle.trace_code.specs.trace_model.declared.trace.Trace.{Trace};
 ghost use Rattle.trace_code.specs.trace_model.Channel.{IsTable};
-ghost use Rattle.trace_code.specs.Encoding.{Encodes};
+ghost use Rattle.replay_run.specs.Behind.{EncodesPlain};
 ghost use Rattle.replay_run.specs.Standing.{IsAt, StandsBehind};
 
 use crate::cursors::Cursors;
@@ -35,19 +35,19 @@ pub(crate) struct Feeder<'a> {
 }
 
 impl<'a> Feeder<'a> {
-    /// Before the first row of at most so many, with a trace of the map's channels, whose encoding the bytes are.
+    /// Before the first row of at most so many, with a trace of the map's channels without a reset, whose encoding the bytes are.
     pub(crate) fn new(
         alloc: Global,
         map: &'a Map,
         bytes: &'a [u8],
         cycles: u32,
     ) -> Result<Feeder<'a>, Memory>
-        requires trace { (t : Trace) × Encodes t bytes.now × (t.channels ≡ map.now.channels) }
+        requires trace { (t : Trace) × EncodesPlain t bytes.now × (t.channels ≡ map.now.channels) }
         requires few { cycles ≤ MOST_CYCLES }
         ensures map { IfOk result (λ feeder. feeder.map.now ≡ map.now) }
         ensures most { IfOk result (λ feeder. feeder.cycles ≡ cycles) }
         ensures stands { IfOk result (λ feeder. StandsBehind feeder feeder []) }
-        ensures at { IfOk result (λ feeder. (t : Trace) → Encodes t bytes.now → t.channels ≡ map.now.channels → IsAt t [] feeder) }
+        ensures at { IfOk result (λ feeder. (t : Trace) → EncodesPlain t bytes.now → t.channels ≡ map.now.channels → IsAt t [] feeder) }
     {
         let channels = &map.channels;
         let cursors = Cursors::open(alloc, bytes, channels.len())?;
@@ -90,11 +90,11 @@ impl<'a> Player<Feed> for Feeder<'a> {
         &self.feed
     }
 
-    fn keep(&mut self, _cycle: u32, last: &Row) -> Result<(), Infallible> {
+    fn keep(&mut self, cycle: u32, last: &Row) -> Result<(), Infallible> {
         let channels = &self.map.channels;
         follow(&mut self.cursors, channels, last.ends, &mut self.feed);
         self.have.add(last.ends);
-        self.output.push(last, channels);
+        self.output.push(cycle, last, channels);
         Ok(())
     }
 }

@@ -6,13 +6,12 @@ ghost use Rattle.trace_code.specs.vidi_bits.Number.{has};
 ghost use Rattle.trace_code.specs.trace_model.declared.packet.Packet.{Packet};
 ghost use Rattle.trace_code.specs.trace_model.declared.trace.Trace.{Trace};
 ghost use Rattle.trace_code.specs.trace_model.Channel.{IsTable};
-ghost use Rattle.trace_code.specs.trace_model.Clock.{clock};
 ghost use Rattle.trace_code.specs.trace_model.Counting.{IsNth};
 ghost use Rattle.trace_code.specs.trace_model.Packet.{content_of, count, does, widths_of};
 ghost use Rattle.trace_code.specs.trace_model.Row.{all_widths, replaced};
 ghost use Rattle.trace_code.specs.Stands.{Stands};
 ghost use Rattle.run_stage.specs.chan_replayer.Feed.{need_of, IsFeed, IsFeedAt, IsFeedOver};
-ghost use Rattle.replay_run.specs.Behind.{none_yet, AreBehind, IsBehind};
+ghost use Rattle.replay_run.specs.Behind.{epoch_clock, none_yet, AreBehind, IsBehind};
 ghost use Rattle.replay_run.specs.Feeding.{IsBeside, IsClockAt, IsChannelFed, IsFeedBut, IsSameAt};
 
 use crate::bits::{with_bit_as, without};
@@ -47,7 +46,7 @@ fn feed_clock(cursor: &Cursor, beside: Option<usize>, channels: usize, c: usize,
     requires places { length needs.old ≡ channels * channels }
     ensures here { (t : Trace) (j p : ℕ) (packet : Packet) → IfSome beside (IsClockAt t cursor.now channels needs.old)
         → Stands cursor.now t j → channels ≡ length t.channels → IsNth (does cursor.now.kind cursor.now.channel) t.packets j p packet
-        → (d : ℕ) → d < channels → slice_index needs.new (channels * c + d) ≡ clock t.packets p d }
+        → (d : ℕ) → d < channels → slice_index needs.new (channels * c + d) ≡ epoch_clock t.packets p d }
     ensures others { (d e : ℕ) → d ≢ c → e < channels
         → slice_index needs.new (channels * d + e) ≡ slice_index needs.old (channels * d + e) }
     ensures places { length needs.new ≡ channels * channels }
@@ -58,7 +57,7 @@ fn feed_clock(cursor: &Cursor, beside: Option<usize>, channels: usize, c: usize,
             let need = |d: usize| -> u32
                 requires { (t : Trace) × (j : ℕ) × Stands cursor.now t j × (d < length t.channels) }
                 ensures { (t : Trace) (j p : ℕ) (packet : Packet) → Stands cursor.entry.now t j → d < length t.channels
-                    → IsNth (does cursor.entry.now.kind cursor.entry.now.channel) t.packets j p packet → result ≡ clock t.packets p d }
+                    → IsNth (does cursor.entry.now.kind cursor.entry.now.channel) t.packets j p packet → result ≡ epoch_clock t.packets p d }
             { cursor.need(d) };
             needs.write(c, need);
         }
@@ -98,7 +97,7 @@ fn feed_event(
     ensures need { (t : Trace) (j p : ℕ) (packet : Packet) → IfSome beside (IsClockAt t cursor.now channels feed.old.needs)
         → Stands cursor.now t j → channels ≡ length t.channels
         → IsNth (does cursor.now.kind cursor.now.channel) t.packets j p packet
-        → (d : ℕ) → d < channels → need_of channels feed.new c d ≡ clock t.packets p d }
+        → (d : ℕ) → d < channels → need_of channels feed.new c d ≡ epoch_clock t.packets p d }
     ensures other_more { (d : ℕ) → d ≢ c → has feed.new.more d ≡ has feed.old.more d }
     ensures other_needs { (d e : ℕ) → d ≢ c → e < channels → need_of channels feed.new d e ≡ need_of channels feed.old d e }
     ensures needs { length feed.new.needs ≡ channels * channels }

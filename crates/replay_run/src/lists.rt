@@ -6,13 +6,12 @@ ghost use Rattle.trace_code.specs.trace_model.declared.event.Event.{Event as One
 ghost use Rattle.trace_code.specs.trace_model.declared.packet.Packet.{Packet};
 ghost use Rattle.trace_code.specs.trace_model.declared.row.Row.{Row as OneRow};
 ghost use Rattle.trace_code.specs.trace_model.declared.trace.Trace.{Trace};
-ghost use Rattle.trace_code.specs.trace_model.Clock.{clock};
 ghost use Rattle.trace_code.specs.trace_model.Counting.{IsNth};
 ghost use Rattle.trace_code.specs.trace_model.Packet.{does};
 ghost use Rattle.trace_code.specs.Stands.{Stands};
 ghost use Rattle.run_stage.specs.run_model.Held.{await_on, awaits, controlled, event, held, held_event, held_if, is_held, next_event, recorded_next, same_event, waits};
 ghost use Rattle.run_stage.specs.run_model.Replay.{done};
-ghost use Rattle.replay_run.specs.Behind.{AreBehind, IsBehind};
+ghost use Rattle.replay_run.specs.Behind.{epoch_clock, AreBehind, IsBehind};
 ghost use Rattle.replay_run.specs.Lists.{AreSpare, HasRoom, IsKept};
 
 use crate::cursors::{Cursors, cursor_of};
@@ -82,7 +81,7 @@ fn list_awaits(out: &mut Vec<Await>, channels: &[Channel], have: &Clock, cursor:
     requires room { vec_len out.old + length channels.now ≤ vec_capacity out.old }
     ensures { (t : Trace) (j p : ℕ) (packet : Packet) → Stands cursor.now t j → t.channels ≡ channels.now
         → IsNth (does cursor.now.kind cursor.now.channel) t.packets j p packet
-        → out.new.items ≡ out.old.items ++ awaits channels.now (slice_index have.now) (clock t.packets p) }
+        → out.new.items ≡ out.old.items ++ awaits channels.now (slice_index have.now) (epoch_clock t.packets p) }
 {
     for (c, _channel) in channels.iter().enumerate() {
         let need = cursor.need(c);

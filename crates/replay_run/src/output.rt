@@ -1,11 +1,11 @@
 //! The trace that a replay writes.
 
-ghost use Rattle.std.specs.Prelude.{◌≡◌, ◌+◌, ◌-◌, ◌^◌, ◌≤◌, ◌<◌, ◌++◌, ◌∷◌, [], ℕ, List, IfOk, length, take};
-ghost use Rattle.trace_code.specs.trace_model.declared.packet.TheConstants.{MOST_CYCLES};
+ghost use Rattle.std.specs.Prelude.{◌≡◌, ◌+◌, ◌-◌, ◌^◌, ◌≤◌, ◌<◌, ◌++◌, ◌∷◌, [], false, ℕ, List, IfOk, length, take};
+ghost use Rattle.trace_code.specs.trace_model.declared.packet.TheConstants.{GAP_LIMIT, MOST_CYCLES};
 ghost use Rattle.trace_code.specs.trace_model.declared.channel.Channel.{Channel as OneChannel};
 ghost use Rattle.trace_code.specs.trace_model.declared.row.Row.{Row as OneRow};
 ghost use Rattle.trace_code.specs.trace_model.Channel.{IsTable};
-ghost use Rattle.trace_code.specs.trace_model.Length.{longest_packet};
+ghost use Rattle.trace_code.specs.trace_model.Length.{longest_packet, packet_len};
 ghost use Rattle.trace_code.specs.trace_model.Recording.{trace_of};
 ghost use Rattle.trace_code.specs.trace_model.Row.{IsOver};
 ghost use Rattle.trace_code.specs.Encoding.{encode, end_mark, row_bytes};
@@ -13,22 +13,24 @@ ghost use Rattle.replay_run.specs.declared.output.TheConstants.{END_LEN};
 ghost use Rattle.replay_run.specs.Output.{HasRoomFor, IsWritten};
 
 use std::alloc::Global;
-use trace_code::trace_model::{Channels, Row, longest_packet, packets_in};
+use trace_code::trace_model::{Channels, Row, longest_packet};
 use trace_code::vidi_bits::{Bytes, Items, Memory};
 use trace_code::{end_mark, header_bytes, write_packet};
 
 /// The bytes of an encoded trace's end.
 const END_LEN: usize = 5;
 
-/// Writes the packet of a row, where it has an event, behind the first `len` bytes, and gives how many there are then.
-fn write_row(row: &Row, channels: &Channels, out: &mut [u8], len: usize) -> usize
+/// Writes the packet of a row behind this gap, where the row has an event, behind the first `len` bytes, and gives how many there are then.
+fn write_row(row: &Row, gap: u32, channels: &Channels, out: &mut [u8], len: usize) -> usize
     requires table { IsTable channels.now }
     requires over { IsOver channels.now row.now }
+    requires gap { gap < GAP_LIMIT }
     requires room { len + longest_packet channels.now ≤ length out.old }
-    ensures bytes { take result out.new ≡ take len out.old ++ row_bytes channels.now row.now }
+    ensures bytes { take result out.new ≡ take len out.old ++ row_bytes channels.now gap row.now }
+    ensures place { result ≡ len + packet_len channels.now row.now.starts row.now.ends }
     ensures most { result ≤ len + longest_packet channels.now }
 {
-    let written = write_packet(row, channels, &mut out[len..]);
+    let written = write_packet(row, gap, channels, &mut out[len..]);
     len + written
 }
 
@@ -53,6 +55,8 @@ pub(crate) struct Output {
     pub(crate) len: usize,
     /// How many packets are written.
     pub(crate) packets: u32,
+    /// The cycle at which the last of them ends, 0 before the first.
+    pub(crate) end: u32,
 }
 
 impl Output {
@@ -71,21 +75,29 @@ impl Output {
             bytes,
             len,
             packets: 0,
+            end: 0,
         })
     }
 
-    /// Writes the packet of a row, where it has an event.
-    pub(crate) fn push(&mut self, row: &Row, channels: &Channels)
+    /// Writes the packet of the row of a cycle, where it has an event. The row isn't fresh.
+    pub(crate) fn push(&mut self, cycle: u32, row: &Row, channels: &Channels)
         requires table { IsTable channels.now }
         requires over { IsOver channels.now row.now }
         requires room { HasRoomFor channels.now 1 self.old }
+        requires cycle { cycle < MOST_CYCLES }
+        requires end { self.old.end ≤ cycle }
         requires few { self.old.packets < 2 ^ 32 - 1 }
-        ensures written { (rows : List OneRow) → IsWritten channels.now rows self.old
+        ensures written { (rows : List OneRow) → length rows ≡ cycle → row.now.fresh ≡ false → IsWritten channels.now rows self.old
             → IsWritten channels.now (rows ++ row.now ∷ []) self.new }
         ensures room { (n : ℕ) → HasRoomFor channels.now (n + 1) self.old → HasRoomFor channels.now n self.new }
     {
-        self.len = write_row(row, channels, self.bytes.as_mut_slice(), self.len);
-        self.packets += packets_in(row);
+        let gap = cycle - self.end;
+        let before = self.len;
+        self.len = write_row(row, gap, channels, self.bytes.as_mut_slice(), before);
+        if self.len > before {
+            self.packets += 1;
+            self.end = cycle + 1;
+        }
     }
 
     /// Writes the end, and gives the whole trace.
@@ -98,6 +110,7 @@ impl Output {
             mut bytes,
             len,
             packets,
+            ..
         } = self;
         let all = write_end(packets, bytes.as_mut_slice(), len);
         bytes.truncate(all);

@@ -5,6 +5,7 @@ ghost use Rattle.trace_code.specs.trace_model.declared.packet.TheConstants.{MOST
 ghost use Rattle.trace_code.specs.trace_model.declared.row.Row.{Row as OneRow};
 ghost use Rattle.trace_code.specs.trace_model.declared.trace.Trace.{Trace};
 ghost use Rattle.trace_code.specs.Encoding.{Encodes};
+ghost use Rattle.trace_code.specs.NoReset.{HasNoReset};
 ghost use Rattle.net_design.specs.declared.design.Design.{Design};
 ghost use Rattle.net_design.specs.declared.values.Values.{Values};
 ghost use Rattle.run_stage.specs.chan_map.declared.pins.Map.{Map as OneMap};
@@ -78,7 +79,7 @@ fn outcome_of(ending: Ending, lists: Lists, feeder: &Feeder, last: &Row) -> Repl
 
 /// Replays a trace on a design behind replayers: from a reset of the shell on it plays cycles until the trace has ended, a row is
 /// unstable, or `cycles` of them are used, of which there are at most `MOST_CYCLES`. The bytes are the encoding of a trace of the map's
-/// channels, and the map is the shell's.
+/// channels in which no packet is a reset, and the map is the shell's.
 ///
 /// Where the shell runs a design, the rows are *the replay*'s of this design, and the shell stands behind them afterwards. `Ended` exactly
 /// where the trace has ended in them, with their number; `Unstable` exactly where the next row is unstable, with the lowest channel and
@@ -93,6 +94,7 @@ pub fn replay<S: ReplayShell>(
 ) -> Result<Replayed, Memory>
     requires mapped { S.map shell.old ≡ map.now }
     requires trace { (t : Trace) × Encodes t trace.now × (t.channels ≡ map.now.channels) }
+    requires no_reset { (t : Trace) × Encodes t trace.now × HasNoReset t.packets }
     requires few { cycles ≤ MOST_CYCLES }
     ensures replayed { IfOk result (λ answer. (t : Trace) (d : Design) (s : Values) (before : List OneRow) → Encodes t trace.now
         → S.runs shell.old d s before → IsReplayed d map.now t.packets cycles (S.runs shell.new) answer) }

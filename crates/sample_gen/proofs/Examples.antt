@@ -15,7 +15,7 @@ unfolding digits
 script_1 = refl
 
 stalls_1 : stalls 1
-    ≡ codes "capacity 15\ndrain 7 1\ndrain 2 1\ndrain 4 1\ndrain 4 1\ndrain 4 1\ndrain 3 1\ndrain 4 1\ndrain 5 1\n"
+    ≡ codes "capacity 23\ndrain 7 1\ndrain 2 1\ndrain 4 1\ndrain 4 1\ndrain 4 1\ndrain 3 1\ndrain 4 1\ndrain 5 1\n"
 unfolding digits
 stalls_1 = refl
 
@@ -24,7 +24,7 @@ unfolding digits
 script_3 = refl
 
 stalls_3 : stalls 3
-    ≡ codes "capacity 17\ndrain 1 1\ndrain 7 1\ndrain 5 1\ndrain 6 1\ndrain 8 1\ndrain 1 1\ndrain 8 1\ndrain 6 1\n"
+    ≡ codes "capacity 25\ndrain 1 1\ndrain 7 1\ndrain 5 1\ndrain 6 1\ndrain 8 1\ndrain 1 1\ndrain 8 1\ndrain 6 1\n"
 unfolding digits
 stalls_3 = refl
 

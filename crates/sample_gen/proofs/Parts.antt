@@ -16,13 +16,13 @@ script_is n x text same is =
     ++ codes "b take all\n") same
 
 pub stalls_is : (n x y : ℕ) (text : List ℕ) → x ≡ n → y ≡ state x n
-    → text ≡ codes "capacity " ++ decimal (14 + n % 32) ++ codes "\n" ++ flat_map (λ i. drain_line (drawn y i)) (range_with_len 1 8)
+    → text ≡ codes "capacity " ++ decimal (22 + n % 32) ++ codes "\n" ++ flat_map (λ i. drain_line (drawn y i)) (range_with_len 1 8)
     → text ≡ stalls n
 stalls_is n x y text same goes is =
     is
-    ∙ ap (λ z. codes "capacity " ++ decimal (14 + n % 32) ++ codes "\n" ++ flat_map (λ i. drain_line (drawn z i)) (range_with_len 1 8))
+    ∙ ap (λ z. codes "capacity " ++ decimal (22 + n % 32) ++ codes "\n" ++ flat_map (λ i. drain_line (drawn z i)) (range_with_len 1 8))
     (goes ∙ ap (λ z. state z n) same)
-    ∙ ap (λ z. codes "capacity " ++ decimal (14 + n % 32) ++ codes "\n" ++ z) (drawn_behind drain_line n n 1 8)
+    ∙ ap (λ z. codes "capacity " ++ decimal (22 + n % 32) ++ codes "\n" ++ z) (drawn_behind drain_line n n 1 8)
 
 abbrev made : ℕ → List ℕ → List ℕ → List ℕ → List ℕ → Sample
 made n a b x y = record {

@@ -51,12 +51,12 @@ abbrev capacity_test : ℕ → Bool
 capacity_test n = is_line (capacity_text n)
     && (not (is_blank (line_unless_bad (capacity_text n))) && is_some (capacity_in (line_unless_bad (capacity_text n))))
 
-capacities_pass : list_all capacity_test (range_with_len 14 32) ≡ true
+capacities_pass : list_all capacity_test (range_with_len 22 32) ≡ true
 unfolding digits is_bad words_between
 capacities_pass = refl
 
-capacity_read : (s : ℕ) → capacity_test (14 + s % 32) ≡ true
-capacity_read s = each_in capacity_test 14 32 (14 + s % 32) capacities_pass (omega arith) (omega arith)
+capacity_read : (s : ℕ) → capacity_test (22 + s % 32) ≡ true
+capacity_read s = each_in capacity_test 22 32 (22 + s % 32) capacities_pass (omega arith) (omega arith)
 
 some_capacity : (n : ℕ) (o : Option ℕ) (lines : List (Option Line)) → is_some o ≡ true → plan_behind n o lines ≡ drain_faults (n + 1) lines
 some_capacity n None lines h = absurd (false≢true h)
@@ -71,7 +71,7 @@ headed head lines seen there =
 
 pub plans_read : (s : ℕ) → plan_faults (read_lines (stalls s)) ≡ []
 plans_read s =
-    let text : List ℕ = capacity_text (14 + s % 32) in
+    let text : List ℕ = capacity_text (22 + s % 32) in
     let rest : List ℕ = flat_map (λ i. drain_line (drawn s (s + i))) (range_with_len 1 8) in
     let parts = and_parts (is_line text) (not (is_blank (line_unless_bad text)) && is_some (capacity_in (line_unless_bad text)))
     (capacity_read s) in

@@ -33,7 +33,7 @@ drain_line y = codes "drain " ++ decimal (1 + y % 8) ++ codes " 1\n"
 
 -- the bytes that the store holds
 abbrev pub capacity : ℕ → ℕ
-capacity s = 14 + s % 32
+capacity s = 22 + s % 32
 
 -- the eight numbers behind those that are sent tell how the store drains
 abbrev pub stalls : ℕ → List ℕ

@@ -26,7 +26,7 @@ pub fn sample(alloc: Global, number: u32) -> Result<Sample, Memory>
     let cycles = 100 + 8 * number;
     let mut sequence = Sequence::new(number);
     let script = script(alloc, cycles, number, &mut sequence)?;
-    let stalls = stalls(alloc, 14 + number % 32, DRAINS, &mut sequence)?;
+    let stalls = stalls(alloc, 22 + number % 32, DRAINS, &mut sequence)?;
     let design = design(alloc, stages)?;
     let map = map(alloc)?;
     Ok(Sample {

@@ -1,20 +1,19 @@
 -- The recording so far: the rows, the books, the bytes that wait and those that are out.
-use Rattle.std.proofs.Common.{◌≡◌, ℕ, zero, suc, ◌+◌, ◌-◌, ◌<◌, ◌≤◌, Bool, true, false, cond, List, [], ◌∷◌, ◌++◌, Option, Some, None}
+use Rattle.std.proofs.Common.{◌≡◌, ℕ, zero, suc, ◌+◌, ◌-◌, ◌<◌, ◌≤◌, true, false, cond, List, [], ◌∷◌, ◌++◌, Option, Some, None}
 use Rattle.std.proofs.Common.{length, take, drop, slice_get, refl, ap, sym, subst, ◌∙◌, append_assoc, arith, ⊎_elim, add-one}
 use Rattle.std.proofs.Common.{length-drop}
 use Rattle.std.specs.Io.KnownBytes.{append_known}
 use Rattle.std.proofs.lemmas.Bool.{cases_Bool}
 use Rattle.std.proofs.lemmas.List.{append-nil, length-append, length-take-le, length_push, take-append-drop}
-use Rattle.std.proofs.lemmas.List.Concat.{flat_map-append}
 use Rattle.trace_code.specs.trace_model.declared.channel.Channel.{Channel}
 use Rattle.trace_code.specs.trace_model.declared.row.Row.{Row}
 use Rattle.trace_code.specs.trace_model.Channel.{IsTable}
-use Rattle.trace_code.specs.trace_model.Recording.{has_event, packet_of, packets_of, trace_of}
+use Rattle.trace_code.specs.trace_model.Recording.{end_of, has_event, trace_of}
 use Rattle.trace_code.specs.trace_model.Row.{row_before, IsOver}
 use Rattle.trace_code.proofs.trace_model_lemmas.CountingLemmas.{slice_get-last, slice_get-append_left}
-use Rattle.trace_code.proofs.trace_model_lemmas.RowLaws.{row-adds}
-use Rattle.trace_code.specs.Encoding.{encode, end_mark, header_bytes, row_bytes}
+use Rattle.trace_code.specs.Encoding.{encode, end_mark, header_bytes, row_bytes, rows_bytes}
 use Rattle.trace_code.proofs.RowBytes.{row-length, no-row-packet}
+use Rattle.trace_code.proofs.RowsBytes.{count-push, encode-rows, rows-push}
 use Rattle.room_ledger.specs.Gates.{Plan, drained, left, row_len, used_at}
 use Rattle.room_ledger.specs.Laws.{MayFollow, StandsAfter}
 use Rattle.room_ledger.specs.Ledger.{Ledger, Emitted, Regranted, empty}
@@ -23,8 +22,7 @@ use Rattle.room_ledger.proofs.Following.{keeps-gates, same-len, used-front}
 use Rattle.vidi_io.specs.Sink.{AppendsSome}
 use Rattle.vidi_recorder.specs.Course.{drained_after, drained_before, sizes_of}
 use Rattle.vidi_recorder.proofs.Pushing.{told-both}
-use Rattle.vidi_recorder.specs.Standing.{body, Cut, Going}
-use Rattle.vidi_recorder.proofs.Runs.{encode-is}
+use Rattle.vidi_recorder.specs.Standing.{Cut, Going}
 
 -- ---- at the beginning
 pub going-first : (channels : List Channel) (plan : Plan) (first : Option (List ℕ)) (room : Ledger) (items header : List ℕ)
@@ -52,13 +50,13 @@ cut-header channels plan first told header h is = record {
 }
 
 -- ---- lengths and drains
-pub bytes-len : (channels : List Channel) (row : Row) → IsTable channels → IsOver channels row
-    → length (row_bytes channels row) ≡ event_len (sizes_of channels) row.starts row.ends
-bytes-len channels row table over =
+pub bytes-len : (channels : List Channel) (gap : ℕ) (row : Row) → IsTable channels → IsOver channels row
+    → length (row_bytes channels gap row) ≡ event_len (sizes_of channels) row.starts row.ends
+bytes-len channels gap row table over =
     let few : length channels ≤ 128 = let f = table.few in omega (arith, f) in
     ⊎_elim
-    (λ (h : has_event row ≡ true). row-length channels row few over.starts over.contents h)
-    (λ (h : has_event row ≡ false). let n = no-row-packet channels row h in ap length n.0 ∙ sym n.1)
+    (λ (h : has_event row ≡ true). row-length channels gap row few over.starts over.contents h)
+    (λ (h : has_event row ≡ false). let n = no-row-packet channels gap row h in ap length n.0 ∙ sym n.1)
     (cases_Bool (has_event row))
     ∙ same-len channels row.starts row.ends
 
@@ -94,39 +92,28 @@ before-push sizes plan rows row =
     ∙ ap (λ n. drained_before sizes plan rows (length rows) + n) (after-push sizes plan rows row)
 
 -- ---- bytes of one row more
-body-push : (channels : List Channel) (rows : List Row) (row : Row)
-    → body channels (rows ++ row ∷ []) ≡ body channels rows ++ row_bytes channels row
-body-push channels rows row = flat_map-append (row_bytes channels) rows (row ∷ [])
-    ∙ ap (λ bs. body channels rows ++ bs) (append-nil (row_bytes channels row))
+-- those of a row behind these rows
+abbrev pub bytes_behind : List Channel → List Row → Row → List ℕ
+bytes_behind channels rows row = row_bytes channels (length rows - end_of 0 0 rows) row
 
-all-push : (channels : List Channel) (rows : List Row) (row : Row) (bytes items : List ℕ)
-    → bytes ++ items ≡ header_bytes channels ++ body channels rows
-    → bytes ++ (items ++ row_bytes channels row) ≡ header_bytes channels ++ body channels (rows ++ row ∷ [])
-all-push channels rows row bytes items e =
-    sym (append_assoc bytes items (row_bytes channels row))
-    ∙ ap (λ bs. bs ++ row_bytes channels row) e
-    ∙ append_assoc (header_bytes channels) (body channels rows) (row_bytes channels row)
-    ∙ ap (λ bs. header_bytes channels ++ bs) (sym (body-push channels rows row))
-
-count-push : (channels : List Channel) (rows : List Row) (row : Row)
-    → length (packets_of channels (rows ++ row ∷ [])) ≡ length (packets_of channels rows) + cond (has_event row) 1 0
-count-push channels rows row =
-    ap length (row-adds channels rows row)
-    ∙ length-append (packets_of channels rows) (cond (has_event row) (packet_of channels row ∷ []) [])
-    ∙ ap (λ n. length (packets_of channels rows) + n) (one (has_event row))
-  where
-    one : (b : Bool) → length (cond b (packet_of channels row ∷ []) []) ≡ cond b 1 0
-    one true = refl
-    one false = refl
+all-push : (channels : List Channel) (rows : List Row) (row : Row) (bytes items : List ℕ) → row.fresh ≡ false
+    → bytes ++ items ≡ header_bytes channels ++ rows_bytes channels rows
+    → bytes ++ (items ++ bytes_behind channels rows row) ≡ header_bytes channels ++ rows_bytes channels (rows ++ row ∷ [])
+all-push channels rows row bytes items unmarked e =
+    sym (append_assoc bytes items (bytes_behind channels rows row))
+    ∙ ap (λ bs. bs ++ bytes_behind channels rows row) e
+    ∙ append_assoc (header_bytes channels) (rows_bytes channels rows) (bytes_behind channels rows row)
+    ∙ ap (λ bs. header_bytes channels ++ bs) (sym (rows-push channels rows row unmarked))
 
 -- ---- a cycle
 pub record Cycle (channels : List Channel) (plan : Plan) (rows : List Row) (row : Row) (old mid : Ledger)
     (items mixed : List ℕ) : Type 0 where
   pub table : IsTable channels
   pub over : IsOver channels row
+  pub unmarked : row.fresh ≡ false
   pub follows : MayFollow old false (row_before rows (length rows)) row
   pub emitted : Emitted old row.starts row.ends mid
-  pub put : mixed ≡ items ++ row_bytes channels row
+  pub put : mixed ≡ items ++ bytes_behind channels rows row
 
 module _ (channels : List Channel) (plan : Plan) (first : Option (List ℕ)) (rows : List Row) (row : Row) (old mid new : Ledger)
     (items mixed : List ℕ) (told now : Option (List ℕ)) (packets : ℕ) (going : Going channels plan first rows old items told packets)
@@ -141,8 +128,9 @@ module _ (channels : List Channel) (plan : Plan) (first : Option (List ℕ)) (ro
 
   pub mixed-long : length mixed ≡ mid.used
   mixed-long =
-      ap length cycle.put ∙ length-append items (row_bytes channels row) ∙ ap (λ k. k + length (row_bytes channels row)) going.waits
-      ∙ ap (λ k. old.used + k) (bytes-len channels row cycle.table cycle.over)
+      ap length cycle.put ∙ length-append items (bytes_behind channels rows row)
+      ∙ ap (λ k. k + length (bytes_behind channels rows row)) going.waits
+      ∙ ap (λ k. old.used + k) (bytes-len channels (length rows - end_of 0 0 rows) row cycle.table cycle.over)
       ∙ ap (λ s. old.used + event_len s row.starts row.ends) (sym going.stands.channels) ∙ sym cycle.emitted.used
 
   pub going-on : (rest : List ℕ) (more : ℕ)
@@ -156,7 +144,7 @@ module _ (channels : List Channel) (plan : Plan) (first : Option (List ℕ)) (ro
     told_is = told-both first told now going.bytes (take n mixed) going.told_is t;
     all = ap (λ bs. (going.bytes ++ take n mixed) ++ bs) r ∙ append_assoc going.bytes (take n mixed) (drop n mixed)
         ∙ ap (λ bs. going.bytes ++ bs) (take-append-drop n mixed ∙ cycle.put)
-        ∙ all-push channels rows row going.bytes items going.all;
+        ∙ all-push channels rows row going.bytes items cycle.unmarked going.all;
     out = length-append going.bytes (take n mixed)
         ∙ ap (λ k. length going.bytes + k)
         (length-take-le n mixed (let d = drained-within (plan.allowance (length rows)) mid.used in omega (arith, d, mixed-long)))
@@ -166,7 +154,7 @@ module _ (channels : List Channel) (plan : Plan) (first : Option (List ℕ)) (ro
         + event_len (sizes_of channels) row.starts row.ends) = ap (drained (plan.allowance (length rows))) used-is in
         let z : length going.bytes + n ≡ length (header_bytes channels)
         + drained_before (sizes_of channels) plan (rows ++ row ∷ []) (length (rows ++ row ∷ [])) = omega (arith, a, b, c) in z);
-    count = m ∙ ap (λ k. k + cond (has_event row) 1 0) going.count ∙ sym (count-push channels rows row);
+    count = m ∙ ap (λ k. k + cond (has_event row) 1 0) going.count ∙ sym (count-push channels rows row cycle.unmarked);
   }
 
   -- the push of what drains failed
@@ -178,7 +166,7 @@ module _ (channels : List Channel) (plan : Plan) (first : Option (List ℕ)) (ro
     all = append_assoc going.bytes is.kept (is.lost ++ drop n mixed)
         ∙ ap (λ bs. going.bytes ++ bs) (sym (append_assoc is.kept is.lost (drop n mixed)) ∙ ap (λ bs. bs ++ drop n mixed) (sym is.split)
         ∙ take-append-drop n mixed ∙ cycle.put)
-        ∙ all-push channels rows row going.bytes items going.all;
+        ∙ all-push channels rows row going.bytes items cycle.unmarked going.all;
     out = λ some.
         (let long = length_push rows row in
         let one : length (rows ++ row ∷ []) - 1 ≡ length rows = omega (arith, long) in
@@ -195,7 +183,7 @@ module _ (channels : List Channel) (plan : Plan) (first : Option (List ℕ)) (ro
   closed : going.bytes ++ (items ++ end_mark packets) ≡ encode (trace_of channels rows)
   closed =
       sym (append_assoc going.bytes items (end_mark packets)) ∙ ap (λ bs. bs ++ end_mark packets) going.all
-      ∙ ap (λ k. (header_bytes channels ++ body channels rows) ++ end_mark k) going.count ∙ sym (encode-is channels rows)
+      ∙ ap (λ k. (header_bytes channels ++ rows_bytes channels rows) ++ end_mark k) going.count ∙ sym (encode-rows channels rows)
 
   pub told-closed : now ≡ append_known told (items ++ end_mark packets) → now ≡ append_known first (encode (trace_of channels rows))
   told-closed e = told-both first told now going.bytes (items ++ end_mark packets) going.told_is e

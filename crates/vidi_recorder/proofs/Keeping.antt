@@ -1,11 +1,12 @@
 -- A recorder keeps a row, over plain values.
-use Rattle.std.proofs.Common.{◌≡◌, ℕ, ◌+◌, ◌≤◌, false, cond, List, [], ◌∷◌, ◌++◌, Option, length, drop, take, subst, sym}
+use Rattle.std.proofs.Common.{◌≡◌, ℕ, ◌+◌, ◌-◌, ◌*◌, ◌≤◌, false, cond, List, [], ◌∷◌, ◌++◌, Option, length, drop, take, subst, sym, ap, ◌∙◌, arith}
 use Rattle.std.specs.Io.KnownBytes.{append_known}
 use Rattle.trace_code.specs.trace_model.declared.channel.Channel.{Channel}
 use Rattle.trace_code.specs.trace_model.declared.row.Row.{Row}
 use Rattle.trace_code.specs.trace_model.Channel.{IsTable}
-use Rattle.trace_code.specs.trace_model.Recording.{has_event}
+use Rattle.trace_code.specs.trace_model.Recording.{end_of, has_event}
 use Rattle.trace_code.specs.Encoding.{header_bytes, row_bytes}
+use Rattle.trace_code.proofs.RowsBytes.{end-push, end-within}
 use Rattle.env_script.specs.chan_map.declared.pins.Map.{Map}
 use Rattle.env_script.specs.declared.stalls.Stalls.{Stalls}
 use Rattle.env_script.specs.Offer.{Offer}
@@ -37,7 +38,10 @@ module _ (m : Map) (offer : List Row → ℕ → Offer) (stalls : Stalls) (begun
   pub may : MayEmit cells.room row.starts row.ends
   may = (keeps-gates (sizes_of m.channels) (plan_of stalls)).lawful rows false row cells.room some.stands row-next.follows
 
-  pub packets-within : (cycle : ℕ) → length rows ≡ cycle → cells.packets ≤ cycle
+  pub ended-within : (cycle : ℕ) → length rows ≡ cycle → cells.end ≤ cycle
+  ended-within cycle long = let within = end-within rows in let ends = at.ends in omega (arith, within, ends, long)
+
+  pub packets-within : (cycle : ℕ) → length rows ≡ cycle → cells.packets ≤ 2 * cycle
   packets-within cycle long =
       count-few m.channels (plan_of stalls) at.header.0 rows cells.room cells.store.items told cells.packets cycle some long
 
@@ -45,13 +49,26 @@ module _ (m : Map) (offer : List Row → ℕ → Offer) (stalls : Stalls) (begun
 module _ (m : Map) (offer : List Row → ℕ → Offer) (stalls : Stalls) (begun told : Option (List ℕ)) (stands_for : List Row → Type 0)
     (current : ℕ → Offer) (cells : Cells) (rows : List Row) (row : Row) (lasts : AreLasting m.channels offer)
     (at : StandsAt m.channels (plan_of stalls) begun told stands_for current cells rows)
-    (ruled : AreRuled m (rule_under m.channels offer (plan_of stalls)) (rows ++ row ∷ [])) (table : IsTable m.channels) (mid : Ledger)
-    (mixed : List ℕ) (emitted : Emitted cells.room row.starts row.ends mid)
-    (put : mixed ≡ cells.store.items ++ row_bytes m.channels row) where
+    (ruled : AreRuled m (rule_under m.channels offer (plan_of stalls)) (rows ++ row ∷ [])) (table : IsTable m.channels) (t : ℕ)
+    (long : length rows ≡ t) (mid : Ledger) (mixed : List ℕ) (emitted : Emitted cells.room row.starts row.ends mid)
+    (put : mixed ≡ cells.store.items ++ row_bytes m.channels (t - cells.end) row) where
   cycle : Cycle m.channels (plan_of stalls) rows row cells.room mid cells.store.items mixed
   cycle =
       let is = row-next m offer stalls begun told stands_for current cells rows row lasts at ruled in
-      record { table = table; over = is.over; follows = is.follows; emitted = emitted; put = put }
+      record {
+        table = table;
+        over = is.over;
+        unmarked = is.unmarked;
+        follows = is.follows;
+        emitted = emitted;
+        put = put ∙ ap (λ gap. cells.store.items ++ row_bytes m.channels gap row)
+            (ap (λ n. n - cells.end) (sym long) ∙ ap (λ n. length rows - n) at.ends);
+      }
+
+  pub ends-now : (new : ℕ) → new ≡ cond (has_event row) (t + 1) cells.end → new ≡ end_of 0 0 (rows ++ row ∷ [])
+  ends-now new e =
+      e ∙ ap (λ n. cond (has_event row) (n + 1) cells.end) (sym long) ∙ ap (λ n. cond (has_event row) (length rows + 1) n) at.ends
+      ∙ sym (end-push rows row cycle.unmarked)
 
   pub waits-now : length mixed ≡ mid.used
   waits-now = mixed-long m.channels (plan_of stalls) at.header.0 rows row cells.room mid mid cells.store.items mixed told told cells.packets

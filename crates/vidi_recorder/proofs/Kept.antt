@@ -1,24 +1,28 @@
 -- What the trace of a run holds, and what a plan that drains everything makes of a run.
-use Rattle.std.proofs.Common.{◌≡◌, ℕ, suc, ◌+◌, ◌<◌, ◌≤◌, Bool, true, false, not, cond, List, [], ◌∷◌, ◌++◌}
-use Rattle.std.proofs.Common.{Some, None, length, take, drop, slice_get, count_by, refl, ap, sym, subst, ◌∙◌, arith, ⊎_elim, add-one}
+use Rattle.std.proofs.Common.{◌≡◌, ℕ, suc, ◌+◌, ◌-◌, ◌<◌, ◌≤◌, Bool, true, false, not, cond, List, [], ◌∷◌, ◌++◌}
+use Rattle.std.proofs.Common.{Some, None, length, take, drop, slice_get, count_by, refl, ap, sym, subst, ◌∙◌, arith, ⊎_elim, add-one, add-zero, zero-add}
 use Rattle.std.proofs.lemmas.Bool.{cases_Bool, and_from}
 use Rattle.std.proofs.lemmas.List.{take-append-drop, length-take-le, length-map, length_push}
+use Rattle.std.proofs.lemmas.List.Sums.{sum_by-append}
 use Rattle.std.proofs.lemmas.Option.{slice_get_within, same_Some}
 use Rattle.std.proofs.lemmas.Nat.{pow_pos}
 use Rattle.vidi_io.specs.vidi_bits.Number.{has}
 use Rattle.trace_code.specs.trace_model.declared.channel.Channel.{Channel}
 use Rattle.trace_code.specs.trace_model.declared.event.Kind.TheVariants.{End}
+use Rattle.trace_code.specs.trace_model.declared.packet.Packet.{Packet}
 use Rattle.trace_code.specs.trace_model.declared.row.Row.{Row}
 use Rattle.trace_code.specs.trace_model.Channel.{content_bytes}
-use Rattle.trace_code.specs.trace_model.Recording.{row_does}
+use Rattle.trace_code.specs.trace_model.Recording.{after_gap, end_after, has_event, own_before, packet_of, packets_at, packets_from, reset_packet, row_does}
+use Rattle.trace_code.specs.trace_model.Packet.{count, does}
 use Rattle.trace_code.specs.trace_model.Row.{completes, is_in_flight}
-use Rattle.trace_code.proofs.RowBytes.{packets-few}
+use Rattle.trace_code.proofs.RowsBytes.{rows-few}
 use Rattle.trace_code.proofs.trace_model_lemmas.CountingLemmas.{count-cons, slice_get-last}
-use Rattle.trace_code.proofs.trace_model_lemmas.RowLaws.{recorded-once, same-counts}
+use Rattle.trace_code.proofs.trace_model_lemmas.RowLaws.{has-none, quiet}
+use Rattle.trace_code.proofs.trace_model_lemmas.TraceLaws.{trace-records}
 use Rattle.env_script.specs.run_model.Played.{all_up}
 use Rattle.env_script.specs.run_model.Run.{AllUp, IsRun}
 use Rattle.env_script.proofs.run_model_lemmas.Contents.{has-all, same-masks_below}
-use Rattle.env_script.proofs.run_model_lemmas.RunLaws.{StayUp, run-keeps, kept}
+use Rattle.env_script.proofs.run_model_lemmas.RunLaws.{StayUp, run-keeps, run-none_fresh, kept}
 use Rattle.room_ledger.specs.Gates.{Plan, charged_at, keeps, used_at, AreGates}
 use Rattle.room_ledger.specs.Reservation.{least, AreRaised}
 use Rattle.room_ledger.proofs.Following.{used-front}
@@ -48,6 +52,36 @@ gates-stay channels plan = record {
 }
 
 -- ---- counts
+-- the ends of packets are those of their rows: a reset has none
+ends-at : (channels : List Channel) (t before c : ℕ) (row : Row) → count End c (packets_at channels t before row) ≡ cond (row_does End c row) 1 0
+ends-at channels t before c row = one row.fresh (has_event row) refl
+  where
+    gap : ℕ
+    gap = t - own_before t before row
+
+    own : (b : Bool) → has_event row ≡ b → count End c (cond b (after_gap gap (packet_of channels row) ∷ []) []) ≡ cond (row_does End c row) 1 0
+    own true h = count-cons (does End c) (after_gap gap (packet_of channels row)) [] ∙ add-zero (cond (row_does End c row) 1 0)
+    own false h = sym (ap (λ b. cond b 1 0) (quiet End c row h))
+
+    one : (fresh event : Bool) → has_event row ≡ event
+        → count End c (cond fresh (reset_packet (t - before) ∷ []) [] ++ cond event (after_gap gap (packet_of channels row) ∷ []) [])
+        ≡ cond (row_does End c row) 1 0
+    one false event h = own event h
+    one true event h =
+        count-cons (does End c) (reset_packet (t - before)) (cond event (after_gap gap (packet_of channels row) ∷ []) [])
+        ∙ ap (λ b. cond b 1 0 + count End c (cond event (after_gap gap (packet_of channels row) ∷ []) [])) (has-none c)
+        ∙ zero-add (count End c (cond event (after_gap gap (packet_of channels row) ∷ []) [])) ∙ own event h
+
+ends-from : (channels : List Channel) (t before c : ℕ) (rows : List Row)
+    → count End c (packets_from channels t before rows) ≡ count_by (row_does End c) rows
+ends-from channels t before c [] = refl
+ends-from channels t before c (row ∷ rows) =
+    let others = packets_from channels (t + 1) (end_after t before row) rows in
+    sum_by-append (λ (p : Packet). cond (does End c p) 1 0) (packets_at channels t before row) others
+    ∙ ap (λ n. n + count End c others) (ends-at channels t before c row)
+    ∙ ap (λ n. cond (row_does End c row) 1 0 + n) (ends-from channels (t + 1) (end_after t before row) c rows)
+    ∙ sym (count-cons (row_does End c) row rows)
+
 same-count : (f g : Row → Bool) (rows : List Row) → ((t : ℕ) (row : Row) → slice_get rows t ≡ Some row → f row ≡ g row)
     → count_by f rows ≡ count_by g rows
 same-count f g [] h = refl
@@ -61,16 +95,16 @@ run-is_kept d m offer stalls cycles rows stop table lasting few is =
     let r = the-run w rows stop is in
     let keep = run-keeps d m w.offers (GatesUnder m.channels w.plan) rows (offers-stay m.channels offer lasting)
     (gates-stay m.channels w.plan) r.0 r.1 in
-    let both = kept m.channels rows r.0.marked keep in
+    let both = kept m.channels rows (run-none_fresh d m w.offers (GatesUnder m.channels w.plan) rows r.0) r.0.marked keep in
     record {
-      starts = λ c. recorded-once m.channels rows r.0.marked c;
-      ends = λ c. same-counts End c m.channels rows
+      starts = λ c. trace-records m.channels rows (λ t row at. (r.0.marked t row at).0) c;
+      ends = λ c. ends-from m.channels 0 0 c rows
           ∙ same-count (row_does End c) (λ (row : Row). completes row c) rows (λ t row at. (r.0.marked t row at).1.ends c);
       contents = both.0;
       encoded = record {
         table = table;
-        well_formed = both.1;
-        few = let a = packets-few m.channels rows in let b = r.2 in omega (arith, a, b, few);
+        well_formed = both.1 (let b = r.2 in omega (arith, b, few));
+        few = let a = rows-few m.channels rows in let b = r.2 in omega (arith, a, b, few);
       };
     }
 

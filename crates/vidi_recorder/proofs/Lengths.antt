@@ -1,12 +1,13 @@
 -- Lengths of packets.
-use Rattle.std.proofs.Common.{◌≡◌, ℕ, ◌+◌, ◌≤◌, List, [], ◌∷◌, Option, None, Some}
-use Rattle.std.proofs.Common.{length, map, sum_by, ap, sym, ◌∙◌, arith}
+use Rattle.std.proofs.Common.{◌≡◌, ℕ, ◌+◌, ◌<◌, ◌≤◌, ◌==◌, ◌&&◌, Bool, true, false, cond, not, List, [], ◌∷◌, Option, None, Some}
+use Rattle.std.proofs.Common.{length, map, sum_by, refl, ap, sym, ◌∙◌, arith}
 use Rattle.std.proofs.lemmas.List.{length-map}
 use Rattle.std.proofs.lemmas.List.Sums.{sum_by-cons}
 use Rattle.trace_code.specs.trace_model.declared.channel.Channel.{Channel}
 use Rattle.trace_code.specs.trace_model.Channel.{content_bytes, IsTable}
 use Rattle.trace_code.specs.trace_model.declared.row.Row.{Row}
-use Rattle.trace_code.specs.trace_model.Length.{head_len, packet_len}
+use Rattle.trace_code.specs.trace_model.Length.{contents_len, head_len, packet_len}
+use Rattle.trace_code.specs.trace_model.Recording.{has_event}
 use Rattle.trace_code.proofs.RowBytes.{packet-most}
 use Rattle.room_ledger.specs.Gates.{row_len}
 use Rattle.room_ledger.specs.Ledger.{Ledger, claimed, Emitted}
@@ -41,6 +42,23 @@ row-least channels table (Some row) =
         let a = sum_by-cons content_bytes x xs in
         let b = sum_by-cons (whole head) (content_bytes x) (map content_bytes xs) in
         omega (arith, l, a, b)
+
+-- a row has an event exactly where its packet has bytes
+pub some-by_len : (channels : List Channel) (row : Row) (len : ℕ) → len ≡ packet_len channels row.starts row.ends → 0 < len
+    → has_event row ≡ true
+some-by_len channels row len e some = event (row.starts == 0 && row.ends == 0) e
+  where
+    event : (bare : Bool) → len ≡ cond bare 0 (head_len (length channels) + contents_len row.starts channels) → not bare ≡ true
+    event true same = absurd (omega (arith, same, some))
+    event false same = refl
+
+pub none-by_len : (channels : List Channel) (row : Row) (len : ℕ) → len ≡ packet_len channels row.starts row.ends → len ≤ 0
+    → has_event row ≡ false
+none-by_len channels row len e none = event (row.starts == 0 && row.ends == 0) e
+  where
+    event : (bare : Bool) → len ≡ cond bare 0 (head_len (length channels) + contents_len row.starts channels) → not bare ≡ false
+    event true same = refl
+    event false same = absurd (omega (arith, same, none))
 
 -- a packet that was taken into the books has room in the store
 pub packet_room : (channels : List Channel) (old new : Ledger) (starts ends waiting len capacity : ℕ) → Emitted old starts ends new

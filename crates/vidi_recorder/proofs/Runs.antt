@@ -1,7 +1,7 @@
 -- Fronts of the run: rows under its rules are the first rows of it, and their bytes the first bytes of its encoding.
-use Rattle.std.proofs.Common.{◌≡◌, ℕ, zero, suc, ◌<◌, ◌≤◌, ◌^◌, Bool, true, false, cond, List, [], ◌∷◌, ◌++◌, Option, Some, None, length}
-use Rattle.std.proofs.Common.{take, drop, map, slice_get, refl, ap, sym, subst, ◌∙◌, append_assoc, arith, ⊎_elim}
-use Rattle.std.specs.List.{filter, flat_map}
+use Rattle.std.proofs.Common.{◌≡◌, ℕ, zero, suc, ◌+◌, ◌<◌, ◌≤◌, ◌^◌, Bool, false, List, [], ◌∷◌, ◌++◌, Option, Some, None, length}
+use Rattle.std.proofs.Common.{take, drop, slice_get, refl, ap, sym, subst, ◌∙◌, append_assoc, arith, ⊎_elim}
+use Rattle.std.specs.List.{flat_map}
 use Rattle.std.proofs.lemmas.Bool.{cases_lt}
 use Rattle.std.proofs.Math.Logic.{∥∥₁_map}
 use Rattle.std.proofs.lemmas.List.{take-append-drop, length-map, length-take-le, length_push}
@@ -10,13 +10,15 @@ use Rattle.std.proofs.lemmas.Nat.{pow_pos}
 use Rattle.vidi_io.specs.vidi_bits.Number.{has}
 use Rattle.vidi_io.proofs.vidi_bits_lemmas.BitLemmas.{fits_by_bits}
 use Rattle.trace_code.specs.trace_model.declared.channel.Channel.{Channel}
+use Rattle.trace_code.specs.trace_model.declared.packet.Packet.{Packet}
 use Rattle.trace_code.specs.trace_model.declared.row.Row.{Row}
-use Rattle.trace_code.specs.trace_model.Recording.{has_event, packet_of, packets_of, trace_of}
+use Rattle.trace_code.specs.trace_model.Recording.{end_after, packets_at, packets_from, trace_of}
 use Rattle.trace_code.specs.trace_model.Channel.{content_bytes}
 use Rattle.trace_code.specs.trace_model.Row.{is_in_flight, row_before}
 use Rattle.trace_code.proofs.trace_model_lemmas.MaskLemmas.{no-bit-from-has}
 use Rattle.trace_code.proofs.trace_model_lemmas.CountingLemmas.{slice_get-take}
-use Rattle.trace_code.specs.Encoding.{encode, end_mark, header_bytes, packet_bytes, row_bytes}
+use Rattle.trace_code.specs.Encoding.{encode, end_mark, header_bytes, packet_bytes, rows_bytes}
+use Rattle.trace_code.proofs.RowsBytes.{encode-rows}
 use Rattle.net_design.specs.Lawful.{IsLawful}
 use Rattle.env_script.specs.run_model.Laws.{IsReady, OffersFit, OneOfLength, OneThatEnds}
 use Rattle.env_script.specs.run_model.Played.{AreStable}
@@ -33,7 +35,6 @@ use Rattle.env_script.proofs.Lasting.{offers-fit}
 use Rattle.run_stage.specs.chan_monitor.Shell.{IsMapped}
 use Rattle.vidi_recorder.specs.Course.{Course, course, rule_of, GatesUnder, IsRunOf, IsTheRunOf, sizes_of}
 use Rattle.vidi_recorder.specs.Laws.{OneRecordedRun}
-use Rattle.vidi_recorder.specs.Standing.{body}
 use Rattle.vidi_recorder.specs.Recording.{IsFrontOfTheRun}
 
 -- ---- fronts of rows
@@ -76,39 +77,35 @@ module _ (w : Course) (lawful : IsLawful w.design) (ready : IsMapped w.design w.
       (cases_lt (length all) (length rows))
 
 -- ---- bytes
-pub bytes-of_rows : (channels : List Channel) (rows : List Row)
-    → flat_map (packet_bytes channels) (packets_of channels rows) ≡ flat_map (row_bytes channels) rows
-bytes-of_rows channels [] = refl
-bytes-of_rows channels (r ∷ rows) = one (has_event r) ∙ ap (λ bs. row_bytes channels r ++ bs) (bytes-of_rows channels rows)
-  where
-    one : (b : Bool)
-        → flat_map (packet_bytes channels) (map (packet_of channels) (cond b (r ∷ filter has_event rows) (filter has_event rows)))
-        ≡ cond b (packet_bytes channels (packet_of channels r)) [] ++ flat_map (packet_bytes channels) (packets_of channels rows)
-    one true = refl
-    one false = refl
+-- rows and more rows have the packets of the rows, and others behind them
+packets-on : (channels : List Channel) (t e : ℕ) (rows more : List Row)
+    → (others : List Packet) × (packets_from channels t e (rows ++ more) ≡ packets_from channels t e rows ++ others)
+packets-on channels t e [] more = (packets_from channels t e more, refl)
+packets-on channels t e (row ∷ rows) more =
+    let on = packets-on channels (t + 1) (end_after t e row) rows more in (
+      on.0,
+      ap (λ ps. packets_at channels t e row ++ ps) on.1
+          ∙ sym (append_assoc (packets_at channels t e row) (packets_from channels (t + 1) (end_after t e row) rows) on.0),
+    )
 
-abbrev pub mark_of : List Channel → List Row → List ℕ
-mark_of channels rows = end_mark (length (packets_of channels rows))
-
-pub encode-is : (channels : List Channel) (rows : List Row)
-    → encode (trace_of channels rows) ≡ (header_bytes channels ++ body channels rows) ++ mark_of channels rows
-encode-is channels rows =
-    ap (λ bs. header_bytes channels ++ (bs ++ mark_of channels rows)) (bytes-of_rows channels rows)
-    ∙ sym (append_assoc (header_bytes channels) (body channels rows) (mark_of channels rows))
-
--- what is out of rows and more rows
+-- what is out of rows is a front of the encoding of rows and more rows
 front-bytes : (channels : List Channel) (rows more : List Row) (bytes lost : List ℕ)
-    → bytes ++ lost ≡ header_bytes channels ++ body channels rows
-    → encode (trace_of channels (rows ++ more)) ≡ bytes ++ (lost ++ (body channels more ++ mark_of channels (rows ++ more)))
+    → bytes ++ lost ≡ header_bytes channels ++ rows_bytes channels rows
+    → (rest : List ℕ) × (encode (trace_of channels (rows ++ more)) ≡ bytes ++ (lost ++ rest))
 front-bytes channels rows more bytes lost e =
     let h = header_bytes channels in
-    let mark = mark_of channels (rows ++ more) in
-    encode-is channels (rows ++ more)
-    ∙ ap (λ bs. (h ++ bs) ++ mark) (flat_map-append (row_bytes channels) rows more)
-    ∙ ap (λ bs. bs ++ mark) (sym (append_assoc h (body channels rows) (body channels more)))
-    ∙ ap (λ bs. (bs ++ body channels more) ++ mark) (sym e)
-    ∙ append_assoc (bytes ++ lost) (body channels more) mark
-    ∙ append_assoc bytes lost (body channels more ++ mark)
+    let mark = end_mark (length (packets_from channels 0 0 (rows ++ more))) in
+    let on = packets-on channels 0 0 rows more in
+    let rest = flat_map (packet_bytes channels) on.0 in (
+      rest ++ mark,
+      encode-rows channels (rows ++ more)
+          ∙ ap (λ ps. (h ++ flat_map (packet_bytes channels) ps) ++ mark) on.1
+          ∙ ap (λ bs. (h ++ bs) ++ mark) (flat_map-append (packet_bytes channels) (packets_from channels 0 0 rows) on.0)
+          ∙ ap (λ bs. bs ++ mark) (sym (append_assoc h (rows_bytes channels rows) rest))
+          ∙ ap (λ bs. (bs ++ rest) ++ mark) (sym e)
+          ∙ append_assoc (bytes ++ lost) rest mark
+          ∙ append_assoc bytes lost (rest ++ mark),
+    )
 
 -- ---- the run is there, and is one
 pub gates-fixed : (channels : List Channel) (plan : Plan) → GatesAreFixed channels (GatesUnder channels plan)
@@ -162,18 +159,15 @@ front-there w ready fit rows bytes lawful front =
 
 pub going-front : (w : Course) → IsMapped w.design w.bound → OffersFit w.bound.channels w.offers → (rows : List Row)
     (bytes lost : List ℕ) → IsRunOf w rows → AreStable w.bound.channels rows → length rows ≤ w.cycles
-    → bytes ++ lost ≡ header_bytes w.bound.channels ++ body w.bound.channels rows → IsLawful w.design → IsFrontOfTheRun w rows bytes
+    → bytes ++ lost ≡ header_bytes w.bound.channels ++ rows_bytes w.bound.channels rows → IsLawful w.design → IsFrontOfTheRun w rows bytes
 going-front w ready fit rows bytes lost r s l e lawful = front-there w ready fit rows bytes lawful (λ all stop is.
     (let l' = no-longer w lawful ready rows all stop r s l is in
     let front = front-of w lawful ready rows all r (the-run w all stop is).0 l' in
     let more = drop (length rows) all in
-    let whole : rows ++ more ≡ all = ap (λ (rs : List Row). rs ++ more) (sym front) ∙ take-append-drop (length rows) all in (
+    let whole : rows ++ more ≡ all = ap (λ (rs : List Row). rs ++ more) (sym front) ∙ take-append-drop (length rows) all in
+    let bytes-on = front-bytes w.bound.channels rows more bytes lost e in (
       front,
-      (
-        lost ++ (body w.bound.channels more ++ mark_of w.bound.channels (rows ++ more)),
-        sym (front-bytes w.bound.channels rows more bytes lost e)
-            ∙ ap (λ (rs : List Row). encode (trace_of w.bound.channels rs)) whole,
-      ),
+      (lost ++ bytes-on.0, sym bytes-on.1 ∙ ap (λ (rs : List Row). encode (trace_of w.bound.channels rs)) whole),
     )))
 
 pub ended-front : (w : Course) → IsMapped w.design w.bound → OffersFit w.bound.channels w.offers → (rows : List Row) (stop : Option ℕ)

@@ -1,9 +1,9 @@
 -- A script's run is one and is kept, and a plan whose lines let out all that the store can hold leaves nothing.
-use Rattle.std.proofs.Common.{◌≡◌, ℕ, zero, suc, ◌+◌, ◌≤◌, ◌<◌, ◌^◌, ◌%◌, false, List, [], ◌∷◌, ◌++◌, Option, None, Some, length, slice_get, get_or}
+use Rattle.std.proofs.Common.{◌≡◌, ℕ, zero, suc, ◌+◌, ◌≤◌, ◌<◌, ◌%◌, false, List, [], ◌∷◌, ◌++◌, Option, None, Some, length, slice_get, get_or}
 use Rattle.std.proofs.Common.{refl, arith}
 use Rattle.std.specs.Prelude.{replicate}
 use Rattle.room_ledger.specs.Gates.{left, row_len, used_at}
-use Rattle.trace_code.specs.trace_model.declared.packet.TheConstants.{MOST_CYCLES}
+use Rattle.trace_code.specs.trace_model.declared.packet.TheConstants.{GAP_LIMIT, MOST_CYCLES}
 use Rattle.env_script.specs.declared.stalls.Drain.{Drain}
 use Rattle.env_script.specs.Plan.{allowances, allowance_at}
 use Rattle.env_script.specs.ScriptOffer.{script_offer}
@@ -21,7 +21,7 @@ one-script_run d m script stalls ready fits =
 pub script-kept : ScriptRunIsKept
 script-kept d m script stalls rows stop table fits run =
     let few : script.cycles ≤ MOST_CYCLES = fits.few in
-    let small : script.cycles < 2 ^ 32 = omega (arith, few) in
+    let small : script.cycles < GAP_LIMIT = omega (arith, few) in
     run-is_kept d m (script_offer script) stalls script.cycles rows stop table (script-lasts m.channels script fits) small run
 
 -- ---- a plan each of whose lines lets out all that the store can hold

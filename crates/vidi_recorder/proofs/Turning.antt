@@ -61,6 +61,7 @@ follows-row w rows l row stays run stable g unmarked marked = record {
 -- what holds of a row that was committed behind these, whatever the design
 pub record IsNext (channels : List Channel) (offer : ℕ → Offer) (room : Ledger) (rows : List Row) (row : Row) : Type 0 where
   pub over : IsOver channels row
+  pub unmarked : row.fresh ≡ false
   pub carries : Carries channels offer row
   pub ends : EndsAreCompletions row
   pub follows : MayFollow room false (row_before rows (length rows)) row
@@ -84,6 +85,7 @@ module _ (m : Map) (offer : List Row → ℕ → Offer) (plan : Plan) (rows : Li
       subst (λ (o : Option Row). IsMarked o row) (before-append rows row (length rows) (omega arith)) both.1 in
       record {
         over = both.0;
+        unmarked = ruled.2;
         carries = carries-each m.channels (offer rows) (lasts.fits rows) row ruled.0;
         ends = both.1.ends;
         follows = follows-row w rows room row (offers-stay m.channels offer lasts) run stable
@@ -93,6 +95,7 @@ module _ (m : Map) (offer : List Row → ℕ → Offer) (plan : Plan) (rows : Li
   pub next : AreRuled m (rule_under m.channels offer plan) (rows ++ row ∷ []) → IsNext m.channels (offer rows) room rows row
   next are = record {
     over = over-last m (rule_under m.channels offer plan) rows row are;
+    unmarked = ∥∥₁_elim are.played (hlevel props) (λ (x : Played). (one x).unmarked);
     carries = ∥∥₁_elim are.played (hlevel props) (λ (x : Played). (one x).carries);
     ends = ∥∥₁_elim are.played (hlevel props) (λ (x : Played). (one x).ends);
     follows = ∥∥₁_elim are.played (hlevel props) (λ (x : Played). (one x).follows);

@@ -1,5 +1,5 @@
 -- A cycle of a recording, over plain values.
-use Rattle.std.proofs.Common.{◌≡◌, ℕ, ◌+◌, ◌≤◌, Bool, true, false, cond, List, [], ◌∷◌, ◌++◌, Option, Some, length}
+use Rattle.std.proofs.Common.{◌≡◌, ℕ, ◌+◌, ◌*◌, ◌≤◌, Bool, true, false, cond, List, [], ◌∷◌, ◌++◌, Option, Some, length}
 use Rattle.std.proofs.Common.{slice_get, drop, take}
 use Rattle.std.proofs.Common.{ap, sym, subst, ◌∙◌, arith, length-drop}
 use Rattle.std.proofs.lemmas.List.{length-append, length-take-le}
@@ -15,7 +15,7 @@ use Rattle.env_script.specs.Offered.{AllFit, AreLasting}
 use Rattle.vidi_io.specs.Sink.{AppendsSome}
 use Rattle.vidi_recorder.specs.Standing.{Cut, Going}
 use Rattle.vidi_recorder.proofs.Going.{Cycle, cut-drain, going-on}
-use Rattle.trace_code.proofs.RowBytes.{packets-few}
+use Rattle.trace_code.proofs.RowsBytes.{rows-few}
 
 -- ---- what is offered
 pub lasting : (channels given : List Channel) (offer : List Row → ℕ → Offer) → given ≡ channels
@@ -36,10 +36,10 @@ fits-now channels offer current rows lasts now c x at = subst (FitsOffer x) (sym
 -- a count of packets is small
 pub count-few : (channels : List Channel) (plan : Plan) (first : Option (List ℕ)) (rows : List Row) (room : Ledger) (items : List ℕ)
     (told : Option (List ℕ)) (packets cycle : ℕ) → Going channels plan first rows room items told packets → length rows ≡ cycle
-    → packets ≤ cycle
+    → packets ≤ 2 * cycle
 count-few channels plan first rows room items told packets cycle going long =
     let a = going.count in
-    let b = packets-few channels rows in
+    let b = rows-few channels rows in
     omega (arith, a, b, long)
 
 -- ---- what is out and what waits behind the row, where this is the plan's allowance

@@ -1,12 +1,13 @@
 -- What a recording holds of a run, and what gates do to it.
-use Rattle.std.specs.Prelude.{◌≡◌, ℕ, ◌<◌, ◌≤◌, ◌^◌, false, List, Option, Some, length, slice_get, count_by}
+use Rattle.std.specs.Prelude.{◌≡◌, ℕ, ◌<◌, ◌≤◌, false, List, Option, Some, length, slice_get, count_by}
 use Rattle.vidi_io.specs.vidi_bits.Number.{has}
 use Rattle.trace_code.specs.trace_model.declared.channel.Channel.{Channel}
 use Rattle.trace_code.specs.trace_model.declared.event.Kind.TheVariants.{End}
+use Rattle.trace_code.specs.trace_model.declared.packet.TheConstants.{GAP_LIMIT}
 use Rattle.trace_code.specs.trace_model.declared.row.Row.{Row}
 use Rattle.trace_code.specs.trace_model.Channel.{IsTable}
 use Rattle.trace_code.specs.trace_model.Packet.{count}
-use Rattle.trace_code.specs.trace_model.Recording.{packets_of, recorded, trace_of, transactions}
+use Rattle.trace_code.specs.trace_model.Recording.{recorded, trace_of, transactions}
 use Rattle.trace_code.specs.trace_model.Row.{completes}
 use Rattle.trace_code.specs.Encoding.{HasEncoding}
 use Rattle.net_design.specs.declared.design.Design.{Design}
@@ -27,17 +28,17 @@ OneRecordedRun = (d : Design) (m : Map) (offer : List Row → ℕ → Offer) (st
     → AreLasting m.channels offer → ((n : ℕ) → OneOfLength (IsRunOf (course d m offer stalls cycles)) n)
     × OneThatEnds (IsTheRunOf (course d m offer stalls cycles))
 
--- The starts of the packets are, channel by channel, the transactions of the rows with their contents, once and in order; the ends are
+-- The starts of the trace's packets are, channel by channel, the transactions of the rows with their contents, once and in order; the ends are
 -- the completions, each with the content of its start; and the trace has an encoding.
 pub record IsKept (channels : List Channel) (rows : List Row) : Type 0 where
-  pub starts : (c : ℕ) → recorded channels (packets_of channels rows) c ≡ transactions channels rows c
-  pub ends : (c : ℕ) → count End c (packets_of channels rows) ≡ count_by (λ (row : Row). completes row c) rows
+  pub starts : (c : ℕ) → recorded channels (trace_of channels rows).packets c ≡ transactions channels rows c
+  pub ends : (c : ℕ) → count End c (trace_of channels rows).packets ≡ count_by (λ (row : Row). completes row c) rows
   pub contents : ContentsStay channels rows
   pub encoded : HasEncoding (trace_of channels rows)
 
 abbrev pub TheRunIsKept : Type 0
 TheRunIsKept = (d : Design) (m : Map) (offer : List Row → ℕ → Offer) (stalls : Stalls) (cycles : ℕ) (rows : List Row) (stop : Option ℕ)
-    → IsTable m.channels → AreLasting m.channels offer → cycles < 2 ^ 32 → IsTheRunOf (course d m offer stalls cycles) rows stop
+    → IsTable m.channels → AreLasting m.channels offer → cycles < GAP_LIMIT → IsTheRunOf (course d m offer stalls cycles) rows stop
     → IsKept m.channels rows
 
 -- a gate is down in row t only where bytes wait

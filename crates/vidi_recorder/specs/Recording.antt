@@ -2,9 +2,9 @@
 use Rattle.std.specs.Prelude.{◌≡◌, ℕ, ◌+◌, ◌-◌, ◌<◌, ◌≤◌, ◌⊎◌, List, ◌++◌, Option, None, Some, length, take}
 use Rattle.std.specs.Io.KnownBytes.{append_known}
 use Rattle.trace_code.specs.trace_model.declared.row.Row.{Row}
-use Rattle.trace_code.specs.trace_model.Recording.{packets_of, trace_of}
+use Rattle.trace_code.specs.trace_model.Recording.{trace_of}
 use Rattle.trace_code.specs.declared.decoding.TheConstants.{TRACE_LIMIT}
-use Rattle.trace_code.specs.Encoding.{encode, header_bytes}
+use Rattle.trace_code.specs.Encoding.{encode, header_bytes, rows_bytes}
 use Rattle.net_design.specs.declared.design.Design.{Design}
 use Rattle.net_design.specs.declared.values.Values.{Values}
 use Rattle.net_design.specs.Lawful.{IsLawful}
@@ -14,7 +14,7 @@ use Rattle.vidi_recorder.specs.declared.error.Outcome.TheVariants.{Whole, Unstab
 use Rattle.vidi_recorder.specs.declared.error.RecordError.{RecordError}
 use Rattle.vidi_recorder.specs.declared.error.RecordError.TheVariants.{WriteFault, Memory}
 use Rattle.vidi_recorder.specs.Course.{Course, IsTheRunOf, drained_before, sizes_of}
-use Rattle.vidi_recorder.specs.Standing.{body, Reached}
+use Rattle.vidi_recorder.specs.Standing.{Reached}
 
 -- The environment stands for these rows, the shell goes on behind them, and the sink has grown by the encoding of their trace, which isn't
 -- too long to be read again.
@@ -23,7 +23,7 @@ pub record IsRecorded (w : Course) (runs : Design → Values → Option Row → 
   pub played : stands_for rows
   pub reached : Reached w runs rows
   pub told : new ≡ append_known old (encode (trace_of w.bound.channels rows))
-  pub count : packets ≡ length (packets_of w.bound.channels rows)
+  pub count : packets ≡ length (trace_of w.bound.channels rows).packets
   pub short : length (encode (trace_of w.bound.channels rows)) ≤ TRACE_LIMIT
 
 -- Whole: the run has all its cycles. Unstable: the row behind it, that of this cycle, is unstable, on this channel.
@@ -36,7 +36,7 @@ EndsWith w runs stands_for old new (Unstable channel cycle packets) = (rows : Li
 
 -- whatever the design: the bytes are a front of the header and the rows' packets, or, where the rows are the run, of its trace's encoding
 abbrev pub IsFrontOf : Course → List Row → List ℕ → Type 0
-IsFrontOf w rows bytes = (lost : List ℕ) × ((bytes ++ lost ≡ header_bytes w.bound.channels ++ body w.bound.channels rows)
+IsFrontOf w rows bytes = (lost : List ℕ) × ((bytes ++ lost ≡ header_bytes w.bound.channels ++ rows_bytes w.bound.channels rows)
     ⊎ ((stop : Option ℕ) × IsTheRunOf w rows stop × (bytes ++ lost ≡ encode (trace_of w.bound.channels rows))))
 
 -- the run is there, these are its first rows, and the bytes are a front of the encoding of its trace

@@ -2,12 +2,11 @@
 use Rattle.std.specs.Prelude.{◌≡◌, ℕ, ◌+◌, ◌-◌, ◌^◌, ◌<◌, ◌≤◌, false, List, ◌++◌, Option, None, Some, length}
 use Rattle.std.specs.Borrow.{GName}
 use Rattle.std.specs.Io.KnownBytes.{append_known}
-use Rattle.std.specs.List.{flat_map}
 use Rattle.trace_code.specs.trace_model.declared.channel.Channel.{Channel}
 use Rattle.trace_code.specs.trace_model.declared.row.Row.{Row}
-use Rattle.trace_code.specs.trace_model.Recording.{packets_of}
+use Rattle.trace_code.specs.trace_model.Recording.{end_of, trace_of}
 use Rattle.trace_code.specs.trace_model.Row.{all_widths, row_before}
-use Rattle.trace_code.specs.Encoding.{header_bytes, row_bytes}
+use Rattle.trace_code.specs.Encoding.{header_bytes, rows_bytes}
 use Rattle.net_design.specs.declared.design.Design.{Design}
 use Rattle.net_design.specs.declared.values.Values.{Values}
 use Rattle.room_ledger.specs.Gates.{Plan}
@@ -25,10 +24,6 @@ use Rattle.run_stage.specs.declared.ending.Ending.{Ending}
 use Rattle.run_stage.specs.declared.ending.Ending.TheVariants as endings
 use Rattle.vidi_recorder.specs.Course.{Course, IsRunOf, IsTheRunOf, drained_before, sizes_of}
 
--- the bytes of the rows' packets
-abbrev pub body : List Channel → List Row → List ℕ
-body channels rows = flat_map (row_bytes channels) rows
-
 -- The books are *Gates*'s after the rows. The bytes that are out and those that wait are the header and the rows' packets; out are the
 -- header and what drains after the rows. `first` is what the sink told before.
 pub record Going (channels : List Channel) (plan : Plan) (first : Option (List ℕ)) (rows : List Row) (room : Ledger) (items : List ℕ)
@@ -37,16 +32,16 @@ pub record Going (channels : List Channel) (plan : Plan) (first : Option (List �
   pub waits : length items ≡ room.used
   pub bytes : List ℕ
   pub told_is : told ≡ append_known first bytes
-  pub all : bytes ++ items ≡ header_bytes channels ++ body channels rows
+  pub all : bytes ++ items ≡ header_bytes channels ++ rows_bytes channels rows
   pub out : length bytes ≡ length (header_bytes channels) + drained_before (sizes_of channels) plan rows (length rows)
-  pub count : packets ≡ length (packets_of channels rows)
+  pub count : packets ≡ length (trace_of channels rows).packets
 
 -- a push failed: a front of those bytes is out, at least what drains after all rows but the last
 pub record Cut (channels : List Channel) (plan : Plan) (first : Option (List ℕ)) (rows : List Row) (told : Option (List ℕ)) : Type 0 where
   pub bytes : List ℕ
   pub lost : List ℕ
   pub told_is : told ≡ append_known first bytes
-  pub all : bytes ++ lost ≡ header_bytes channels ++ body channels rows
+  pub all : bytes ++ lost ≡ header_bytes channels ++ rows_bytes channels rows
   pub out : 0 < length rows → length (header_bytes channels)
       + drained_before (sizes_of channels) plan rows (length rows - 1) ≤ length bytes
 
@@ -65,6 +60,7 @@ pub record StandsAt (channels : List Channel) (plan : Plan) (begun told : Option
   pub played : stands_for rows
   pub going : (first : Option (List ℕ)) → begun ≡ append_known first (header_bytes channels)
       → Going channels plan first rows cells.room cells.store.items told cells.packets
+  pub ends : cells.end ≡ end_of 0 0 rows
   pub sizes : HasSizes channels plan.capacity cells
   pub offers : cells.given.offers ≡ offers_on channels current
   pub gates : cells.given.gates ≡ cells.room.gates

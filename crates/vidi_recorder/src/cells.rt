@@ -31,6 +31,8 @@ pub(crate) struct Cells {
     pub out: Vec<u8>,
     /// How many packets were put into the store.
     pub packets: u32,
+    /// The cycle at which the last of them ends, 0 before the first.
+    pub end: u32,
 }
 
 /// The buffer in which drained bytes go out.
@@ -55,6 +57,7 @@ pub(crate) fn open(
     ensures out { IfOk result (λ cells. length cells.out.items ≡ capacity) }
     ensures offers { IfOk result (λ cells. length cells.given.offers.contents ≡ length (all_widths channels.now)) }
     ensures packets { IfOk result (λ cells. cells.packets ≡ 0) }
+    ensures end { IfOk result (λ cells. cells.end ≡ 0) }
 {
     let header = header_bytes(alloc, channels)?;
     let store = Store::new(alloc, capacity as usize)?;
@@ -68,5 +71,6 @@ pub(crate) fn open(
         packet: [0; LONGEST_PACKET],
         out,
         packets: 0,
+        end: 0,
     })
 }

@@ -61,6 +61,7 @@ fn run<S: Shell, E: Env, K: Sink>(
     requires out { length recorder.old.cells.now.out.items ≡ recorder.old.stalls.now.capacity }
     requires offers { length recorder.old.cells.now.given.offers.contents ≡ length (all_widths recorder.old.map.now.channels) }
     requires packets { recorder.old.cells.now.packets ≡ 0 }
+    requires end { recorder.old.cells.now.end ≡ 0 }
     requires rows { AreOver recorder.old.map.now.channels rows.old }
     requires silent { rows.old.last.valids ≡ 0 }
     ensures ok { IfOk result (λ outcome. (played : List OneRow) × E.stands_for recorder.new.env.now played
@@ -99,7 +100,7 @@ fn run<S: Shell, E: Env, K: Sink>(
 /// and the room is new, of the map's channels and the plan's capacity, without resets.
 ///
 /// `Whole` exactly where no row of the run is unstable, `Unstable` where one is: the run ends before it. The sink has grown by the
-/// encoding of the run's trace, of at most 67,108,864 bytes; the environment stands for its rows, and the shell in the state behind
+/// encoding of the run's trace, of at most 134,217,728 bytes; the environment stands for its rows, and the shell in the state behind
 /// them. After `WriteFault`, which comes only where the sink's count of faults rose, environment and shell stand behind the first k
 /// rows of the run. The sink has grown by a front of the header and their packets, or, where they are the whole run, of its trace's
 /// encoding; for a lawful design it is a front of that of the run. Where k isn't 0 the header is out, and what drains after all of these

@@ -65,13 +65,7 @@ impl<E: Env, K: Sink> Player<Gated> for Recorder<'_, '_, '_, '_, '_, E, K> {
         let channels = &self.map.channels;
         let cells = &mut *self.cells;
         self.env.commit(last);
-        cells.packets += keep(
-            last,
-            channels,
-            &mut cells.room,
-            &mut cells.store,
-            &mut cells.packet,
-        );
+        keep(last, cycle, channels, cells);
         give(
             &mut cells.room,
             self.stalls.allowance(cycle),

@@ -1,9 +1,9 @@
 //! The steps of a cycle.
 
-ghost use Rattle.std.specs.Prelude.{◌≡◌, ◌<◌, ◌≤◌, ◌^◌, ◌++◌, if◌then◌else◌, length, map, take, drop, OnOk, OnErr};
+ghost use Rattle.std.specs.Prelude.{◌≡◌, ◌+◌, ◌-◌, ◌*◌, ◌<◌, ◌≤◌, ◌^◌, ◌++◌, if◌then◌else◌, length, map, take, drop, OnOk, OnErr};
 ghost use Rattle.std.specs.Io.KnownBytes.{append_known};
 ghost use Rattle.circular_buffer.specs.Buffer.{buffer};
-ghost use Rattle.trace_code.specs.trace_model.declared.packet.TheConstants.{LONGEST_PACKET};
+ghost use Rattle.trace_code.specs.trace_model.declared.packet.TheConstants.{MOST_CYCLES};
 ghost use Rattle.trace_code.specs.trace_model.Channel.{content_bytes, IsTable};
 ghost use Rattle.trace_code.specs.trace_model.Recording.{has_event};
 ghost use Rattle.trace_code.specs.trace_model.Row.{all_widths, IsOver};
@@ -14,10 +14,11 @@ ghost use Rattle.env_script.specs.Offered.{offers_on, AllFit};
 ghost use Rattle.vidi_io.specs.Cause.{HasCause};
 ghost use Rattle.vidi_io.specs.Sink.{AppendsSome, Frame};
 
+use crate::cells::Cells;
 use env_script::{Env, gather};
 use room_ledger::Room;
 use run_stage::Gated;
-use trace_code::trace_model::{Channels, Row, packets_in};
+use trace_code::trace_model::{Channels, Row};
 use trace_code::{end_mark, write_packet};
 use trace_store::Store;
 use vidi_io::{Failed, Sink};
@@ -36,31 +37,34 @@ pub(crate) fn offer<E: Env>(env: &E, channels: &Channels, room: &Room, given: &m
     given.gates = room.gates();
 }
 
-/// Puts the packet of a row into the store and the books, where the row has an event. Gives how many packets it has.
+/// Puts the packet of the row of a cycle into the store and the books, where the row has an event.
 #[tactic(auto, using(crate::proofs::Passed::longest, crate::proofs::Lengths::packet_room, crate::proofs::Lengths::used_within))]
-pub(crate) fn keep(
-    row: &Row,
-    channels: &Channels,
-    room: &mut Room,
-    store: &mut Store,
-    packet: &mut [u8],
-) -> u32
+pub(crate) fn keep(row: &Row, cycle: u32, channels: &Channels, cells: &mut Cells)
     requires table { IsTable channels.now }
     requires row { IsOver channels.now row.now }
-    requires may { MayEmit room.old row.now.starts row.now.ends }
-    requires sizes { room.old.sizes ≡ map content_bytes channels.now }
-    requires waits { length store.old.items ≡ room.old.used }
-    requires capacity { store.old.capacity ≡ room.old.capacity }
-    requires packet { length packet.old ≡ LONGEST_PACKET }
-    ensures room { Emitted room.old row.now.starts row.now.ends room.new }
-    ensures store { store.new ≡ buffer (store.old.items ++ row_bytes channels.now row.now) store.old.capacity }
-    ensures count { result ≡ (if has_event row.now then 1 else 0) }
-    ensures within { room.new.used ≤ room.old.capacity }
+    requires may { MayEmit cells.old.room row.now.starts row.now.ends }
+    requires sizes { cells.old.room.sizes ≡ map content_bytes channels.now }
+    requires waits { length cells.old.store.items ≡ cells.old.room.used }
+    requires capacity { cells.old.store.capacity ≡ cells.old.room.capacity }
+    requires few { cycle < MOST_CYCLES }
+    requires end { cells.old.end ≤ cycle }
+    requires count { cells.old.packets ≤ 2 * cycle }
+    ensures room { Emitted cells.old.room row.now.starts row.now.ends cells.new.room }
+    ensures store { cells.new.store ≡ buffer
+        (cells.old.store.items ++ row_bytes channels.now (cycle - cells.old.end) row.now) cells.old.store.capacity }
+    ensures count { cells.new.packets ≡ cells.old.packets + (if has_event row.now then 1 else 0) }
+    ensures end { cells.new.end ≡ (if has_event row.now then cycle + 1 else cells.old.end) }
+    ensures within { cells.new.room.used ≤ cells.old.room.capacity }
+    ensures given { cells.new.given ≡ cells.old.given }
+    ensures out { cells.new.out ≡ cells.old.out }
 {
-    let len = write_packet(row, channels, packet);
-    let _len = room.emit(row.starts, row.ends);
-    store.put(&packet[..len]);
-    packets_in(row)
+    let len = write_packet(row, cycle - cells.end, channels, &mut cells.packet);
+    let _len = cells.room.emit(row.starts, row.ends);
+    cells.store.put(&cells.packet[..len]);
+    if len > 0 {
+        cells.packets += 1;
+        cells.end = cycle + 1;
+    }
 }
 
 /// Pushes the first `n` bytes that wait, where there are any.

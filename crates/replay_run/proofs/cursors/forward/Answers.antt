@@ -1,12 +1,16 @@
 use Rattle.std.proofs.Common.{◌+◌, min}
 use Rattle.trace_code.specs.trace_model.Packet.{count}
 use Rattle.replay_run.specs.Behind.{IsBehind}
-use Rattle.replay_run.proofs.Forward.{ended-when, further, may-step, more, next, no-further}
+use Rattle.replay_run.proofs.Forward.{ended-when, further, may-step, more, next, no-further, stays}
 use Rattle.replay_run.proofs.cursors.forward.Goals as goal
 
 pub returns-then-at_end-clause-more : goal.returns-then-at_end-clause-more
 returns-then-at_end-clause-more c t kind channel n is =
     no-further t kind channel n ((ended-when t kind channel n c.args.cursor.now c.at_end.result is (c.at_end.ensures t)).0 c.if-at_end.true)
+
+pub returns-then-at_end-clause-behind : goal.returns-then-at_end-clause-behind
+returns-then-at_end-clause-behind c t kind channel n is =
+    stays t kind channel n c.args.cursor.now is ((ended-when t kind channel n c.args.cursor.now c.at_end.result is (c.at_end.ensures t)).0 c.if-at_end.true)
 
 pub step-requires : goal.step-requires
 step-requires c =

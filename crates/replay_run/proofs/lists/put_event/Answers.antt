@@ -1,10 +1,10 @@
 use Rattle.std.proofs.Common.{List, ◌<◌, ◌++◌, min, length, sym, ap, subst, ◌∙◌}
 use Rattle.std.specs.Prelude.{slice_index}
 use Rattle.trace_code.specs.trace_model.declared.channel.Channel.{Channel}
-use Rattle.trace_code.specs.trace_model.Clock.{clock}
 use Rattle.trace_code.specs.trace_model.Packet.{count}
 use Rattle.run_stage.specs.run_model.Held.{awaits, event}
 use Rattle.run_stage.specs.run_model.Replay.{done}
+use Rattle.replay_run.specs.Behind.{epoch_clock}
 use Rattle.replay_run.proofs.Listing.{event-past, event-put}
 use Rattle.replay_run.proofs.lists.put_event.Goals as goal
 
@@ -27,7 +27,7 @@ returns-then-not-at_end-clause-items c t rows are same counts =
     (event c.args.c c.args.kind c.get.result) c.from_vec.result c.args.out.now.items c.put_held.new.out.items b counts c.requires.channel
     c.if-not-at_end.true (c.at_end.ensures t)
     (λ j p packet st nth. c.from_vec.ensures ∙ c.list_awaits.ensures t j p packet st same nth
-    ∙ ap (λ xs. xs ++ awaits c.args.channels.now (slice_index c.args.have.now) (clock t.packets p)) c.requires.empty)
+    ∙ ap (λ xs. xs ++ awaits c.args.channels.now (slice_index c.args.have.now) (epoch_clock t.packets p)) c.requires.empty)
     (ap (event c.args.c c.args.kind) c.get.ensures) c.put_held.ensures.items
 
 pub returns-else-not-at_end-clause-items : goal.returns-else-not-at_end-clause-items

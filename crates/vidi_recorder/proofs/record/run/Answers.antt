@@ -1,14 +1,11 @@
-use Rattle.std.proofs.Common.{◌≡◌, ◌<◌, ◌≤◌, ◌^◌, ℕ, [], List, Option, length, refl, ap, sym, subst, ◌∙◌, arith}
+use Rattle.std.proofs.Common.{◌<◌, ◌^◌, ℕ, [], length, refl, ap, sym, subst, ◌∙◌, arith}
 use Rattle.std.proofs.Math.Logic.{∥∥₁_map}
 use Rattle.std.proofs.lemmas.List.{length-map}
 use Rattle.std.specs.Io.KnownBytes.{append_known}
 use Rattle.circular_buffer.specs.Buffer.{Buffer}
-use Rattle.trace_code.specs.trace_model.declared.row.Row.{Row}
 use Rattle.trace_code.specs.trace_model.Channel.{content_bytes}
 use Rattle.trace_code.specs.trace_model.Row.{row_before}
 use Rattle.trace_code.specs.Encoding.{header_bytes}
-use Rattle.net_design.specs.declared.design.Design.{Design}
-use Rattle.net_design.specs.declared.values.Values.{Values}
 use Rattle.env_script.specs.chan_map.declared.pins.Map.{Map}
 use Rattle.env_script.specs.run_model.Step.{IsFirst}
 use Rattle.env_script.proofs.Lasting.{offers-fit}
@@ -84,6 +81,7 @@ play-requires-clause-stands g c =
         going = λ start e. subst (λ n. Going channels plan start [] cells.room cells.store.items told n) (sym c.requires.packets)
             (going-first channels plan start cells.room cells.store.items (header_bytes channels) told c.requires.room
             (ap (λ (b : Buffer ℕ). b.items) c.requires.store) refl e);
+        ends = c.requires.end;
         sizes = record {
           store = ap (λ (b : Buffer ℕ). b.capacity) c.requires.store;
           used = let none = ap (λ (l : Ledger). l.used) c.requires.room in omega (arith, none);

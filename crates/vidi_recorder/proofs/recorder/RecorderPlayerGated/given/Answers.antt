@@ -1,5 +1,4 @@
 use Rattle.std.proofs.Common.{◌∙◌, subst}
-use Rattle.run_stage.specs.Given.{IsGatedRow}
 use Rattle.vidi_recorder.specs.Course.{plan_of, rule_under}
 use Rattle.vidi_recorder.proofs.Turning.{given-fits, given-ruled}
 use Rattle.vidi_recorder.proofs.Turns.{fits-now, lasting}

@@ -1,16 +1,16 @@
-use Rattle.std.proofs.Common.{◌≡◌, ℕ, ◌+◌, ◌<◌, ◌≤◌, ◌^◌, List, [], ◌∷◌, ◌++◌, Result, Ok, Err, IfErr, length, ap, sym, subst, ◌∙◌, arith}
+use Rattle.std.proofs.Common.{ℕ, ◌<◌, ◌≤◌, ◌^◌, List, [], ◌∷◌, ◌++◌, Result, Ok, Err, IfErr, length, ap, sym, subst, ◌∙◌, arith}
+use Rattle.std.specs.Global.{Vec}
 use Rattle.std.proofs.lemmas.List.{length-map}
 use Rattle.circular_buffer.specs.Buffer.{Buffer}
 use Rattle.trace_code.specs.trace_model.declared.channel.Channel.{Channel}
 use Rattle.trace_code.specs.trace_model.Channel.{content_bytes}
-use Rattle.trace_code.specs.trace_model.Recording.{has_event}
 use Rattle.trace_code.specs.trace_model.Row.{IsOver}
 use Rattle.env_script.specs.Plan.{allowance_at}
 use Rattle.vidi_recorder.specs.Course.{plan_of}
 use Rattle.vidi_recorder.specs.Standing.{Lent, StandsAt}
-use Rattle.vidi_recorder.proofs.Keeping.{breaks-back, cut-now, going-more, may, own, packets-within, row-next, some, stands-back, waits-now}
+use Rattle.vidi_recorder.proofs.Keeping.{breaks-back, cut-now, ended-within, ends-now, going-more, may, own, packets-within, row-next, some, stands-back, waits-now}
 use Rattle.vidi_recorder.proofs.Turning.{carries-now, given-long}
-use Rattle.vidi_recorder.proofs.Turns.{fits-now, lasting, one-most, written-len}
+use Rattle.vidi_recorder.proofs.Turns.{fits-now, lasting, written-len}
 use Rattle.vidi_recorder.proofs.recorder.RecorderPlayerGated.keep.Goals as goal
 
 any_err : {X E : Type 0} (Q : E → Type 0) (r : Result X E) → ((e : E) → Q e) → IfErr r Q
@@ -162,8 +162,8 @@ keep-requires-clause-may g c =
     let lasts = lasting m.channels (g.E.Env.channels env) offer k.channels (g.met.E.Env.fits env) (g.met.E.Env.stays env) in
     may m offer stalls begun told (g.E.Env.stands_for env) (g.E.Env.current env) cells rows row lasts k.at k.ruled
 
-pub overflow_add-cells : goal.overflow_add-cells
-overflow_add-cells g c =
+pub keep-requires-clause-end : goal.keep-requires-clause-end
+keep-requires-clause-end g c =
     let first = c.requires.0 in
     let rows = c.requires.1 in
     let stands = c.requires.4 in
@@ -188,10 +188,35 @@ overflow_add-cells g c =
       ruled = ruled;
     }) in
     let lasts = lasting m.channels (g.E.Env.channels env) offer k.channels (g.met.E.Env.fits env) (g.met.E.Env.stays env) in
-    let a = packets-within m offer stalls begun told (g.E.Env.stands_for env) (g.E.Env.current env) cells rows row lasts k.at k.ruled c.args.cycle c.requires.2 in
-    let b = c.keep.ensures.count in
-    let o = one-most (has_event row) in
-    omega (arith, a, b, o, c.requires.3)
+    ended-within m offer stalls begun told (g.E.Env.stands_for env) (g.E.Env.current env) cells rows row lasts k.at k.ruled c.args.cycle c.requires.2
+
+pub keep-requires-clause-count : goal.keep-requires-clause-count
+keep-requires-clause-count g c =
+    let first = c.requires.0 in
+    let rows = c.requires.1 in
+    let stands = c.requires.4 in
+    let self = c.args.self.now in
+    let env = self.env.now in
+    let m = self.map.now in
+    let stalls = self.stalls.now in
+    let cells = self.cells.now in
+    let row = c.args.last.now in
+    let offer = g.E.Env.offer (g.E.Env.plan env) in
+    let begun = g.K.Sink.told first.sink.now in
+    let told = g.K.Sink.told self.sink.now in
+    let ruled = c.requires.5 in
+    let same = ap (λ (l : Lent). l.map) stands.0 in
+    let same_stalls = ap (λ (l : Lent). l.stalls) stands.0 in
+    let k = own first.map.now m first.stalls.now stalls same same_stalls begun told (g.E.Env.stands_for env)
+    (g.E.Env.offer (g.E.Env.plan first.env.now)) offer (g.E.Env.channels env) (g.E.Env.current env) cells rows row
+    (ap g.E.Env.offer stands.2.plan) (record {
+      table = stands.1;
+      channels = stands.2.channels_stay ∙ stands.2.channels_are;
+      at = stands.4;
+      ruled = ruled;
+    }) in
+    let lasts = lasting m.channels (g.E.Env.channels env) offer k.channels (g.met.E.Env.fits env) (g.met.E.Env.stays env) in
+    packets-within m offer stalls begun told (g.E.Env.stands_for env) (g.E.Env.current env) cells rows row lasts k.at k.ruled c.args.cycle c.requires.2
 
 pub give-requires-clause-waits : goal.give-requires-clause-waits
 give-requires-clause-waits g c =
@@ -219,8 +244,8 @@ give-requires-clause-waits g c =
       ruled = ruled;
     }) in
     let lasts = lasting m.channels (g.E.Env.channels env) offer k.channels (g.met.E.Env.fits env) (g.met.E.Env.stays env) in
-    waits-now m offer stalls begun told (g.E.Env.stands_for env) (g.E.Env.current env) cells rows row lasts k.at k.ruled k.table c.keep.new.room
-    c.keep.new.store.items c.keep.ensures.room (ap (λ (b : Buffer ℕ). b.items) c.keep.ensures.store)
+    waits-now m offer stalls begun told (g.E.Env.stands_for env) (g.E.Env.current env) cells rows row lasts k.at k.ruled k.table c.args.cycle c.requires.2 c.keep.new.cells.room
+    c.keep.new.cells.store.items c.keep.ensures.room (ap (λ (b : Buffer ℕ). b.items) c.keep.ensures.store)
 
 pub returns-in_err-give-clause-broke : goal.returns-in_err-give-clause-broke
 returns-in_err-give-clause-broke g c =
@@ -258,8 +283,8 @@ returns-in_err-give-clause-broke g c =
       breaks-back first.map.now m first.stalls.now stalls same same_stalls begun (g.K.Sink.told c.give.new.sink)
           (g.E.Env.stands_for c.commit.new.self) (rows ++ row ∷ []) (record {
             played = c.commit.ensures.rows rows k.at.played;
-            cut = cut-now m offer stalls begun told (g.E.Env.stands_for env) (g.E.Env.current env) cells rows row lasts k.at k.ruled k.table
-                c.keep.new.room c.keep.new.store.items c.keep.ensures.room (ap (λ (b : Buffer ℕ). b.items) c.keep.ensures.store) (g.K.Sink.told c.give.new.sink) c.allowance.result
+            cut = cut-now m offer stalls begun told (g.E.Env.stands_for env) (g.E.Env.current env) cells rows row lasts k.at k.ruled k.table c.args.cycle long
+                c.keep.new.cells.room c.keep.new.cells.store.items c.keep.ensures.room (ap (λ (b : Buffer ℕ). b.items) c.keep.ensures.store) (g.K.Sink.told c.give.new.sink) c.allowance.result
                 (c.allowance.ensures ∙ ap (allowance_at stalls.drains) (sym long)) c.in_err-give.ensures.err;
           }),
     )))
@@ -334,15 +359,17 @@ returns-clause-stands g c first rows long stands ruled =
     (rows ++ row ∷ []) = record {
       header = k.at.header;
       played = played;
-      going = going-more m offer stalls begun told (g.E.Env.stands_for env) (g.E.Env.current env) cells rows row lasts k.at k.ruled k.table
-          c.keep.new.room c.keep.new.store.items c.keep.ensures.room (ap (λ (b : Buffer ℕ). b.items) c.keep.ensures.store) c.give.new.room c.give.new.store.items
-          (g.K.Sink.told c.give.new.sink) c.allowance.result (cells.packets + c.keep.result) (c.allowance.ensures ∙ ap (allowance_at stalls.drains) (sym long)) c.give.ensures.room
-          (ap (λ (b : Buffer ℕ). b.items) c.give.ensures.rest) c.in_ok-give.ensures.ok (ap (λ n. cells.packets + n) c.keep.ensures.count);
+      going = going-more m offer stalls begun told (g.E.Env.stands_for env) (g.E.Env.current env) cells rows row lasts k.at k.ruled k.table c.args.cycle long
+          c.keep.new.cells.room c.keep.new.cells.store.items c.keep.ensures.room (ap (λ (b : Buffer ℕ). b.items) c.keep.ensures.store) c.give.new.room c.give.new.store.items
+          (g.K.Sink.told c.give.new.sink) c.allowance.result c.keep.new.cells.packets (c.allowance.ensures ∙ ap (allowance_at stalls.drains) (sym long)) c.give.ensures.room
+          (ap (λ (b : Buffer ℕ). b.items) c.give.ensures.rest) c.in_ok-give.ensures.ok c.keep.ensures.count;
+      ends = ends-now m offer stalls begun told (g.E.Env.stands_for env) (g.E.Env.current env) cells rows row lasts k.at k.ruled k.table c.args.cycle long
+          c.keep.new.cells.room c.keep.new.cells.store.items c.keep.ensures.room (ap (λ (b : Buffer ℕ). b.items) c.keep.ensures.store) c.keep.new.cells.end c.keep.ensures.end;
       sizes = record {
         store = ap (λ (b : Buffer ℕ). b.capacity) c.give.ensures.rest ∙ ap (λ (b : Buffer ℕ). b.capacity) c.keep.ensures.store ∙ k.at.sizes.store;
         used = let a = c.give.ensures.room.used in let b = c.keep.ensures.within in omega (arith, a, b, going.stands.capacity);
-        out_len = written-len _ c.give.new.out cells.out.items (c.give.auto.out ∙ ap length c.as_mut_slice.ensures.value)
-            (sym (ap length c.as_mut_slice.ensures.value) ∙ c.as_mut_slice.ensures.len) ∙ k.at.sizes.out_len;
+        out_len = written-len _ c.give.new.out c.keep.new.cells.out.items (c.give.auto.out ∙ ap length c.as_mut_slice.ensures.value)
+            (sym (ap length c.as_mut_slice.ensures.value) ∙ c.as_mut_slice.ensures.len) ∙ ap (λ (v : Vec ℕ). length v.items) c.keep.ensures.out ∙ k.at.sizes.out_len;
         offers_len = given-long m.channels (g.E.Env.current then) c.offer.new.given c.offer.ensures.offers fits;
       };
       offers = c.offer.ensures.offers;
