@@ -1,12 +1,12 @@
 -- What ends a command before its answer, and what a command gives.
 use Rattle.std.specs.Prelude.{ℕ, List, Option, Result, Ok, Err}
 use Rattle.report_text.specs.vidi_io.Shelf.{Files}
-use Rattle.vidi_bench.specs.declared.answer.Answer.{Answer}
-use Rattle.vidi_bench.specs.declared.answer.Ended.{Ended}
-use Rattle.vidi_bench.specs.declared.answer.Ended.TheVariants.{Refused, WriteFault, Memory}
-use Rattle.vidi_bench.specs.declared.status.Status.{Status}
-use Rattle.vidi_bench.specs.AnswerText.{text_of}
-use Rattle.vidi_bench.specs.Steps.{Ending}
+use Rattle.vidi_answer.specs.declared.answer.Answer.{Answer}
+use Rattle.vidi_answer.specs.declared.answer.Ended.{Ended}
+use Rattle.vidi_answer.specs.declared.answer.Ended.TheVariants.{Refused, WriteFault, Memory}
+use Rattle.vidi_answer.specs.declared.status.Status.{Status}
+use Rattle.vidi_answer.specs.AnswerText.{text_of}
+use Rattle.vidi_answer.specs.Steps.{Ending}
 
 -- before a file is written: one of these answers is given, or memory was wanting
 abbrev pub EndsWith : Ending → Ended → Type 0

@@ -4,11 +4,11 @@ use Rattle.report_text.specs.vidi_io.Shelf.{Files}
 use Rattle.report_text.specs.declared.reason.Word.{Word}
 use Rattle.report_text.specs.declared.reason.Reason.{Reason}
 use Rattle.report_text.specs.declared.reason.Reason.TheVariants.{TooLong}
-use Rattle.vidi_bench.specs.declared.status.Status.{Status}
-use Rattle.vidi_bench.specs.declared.status.Status.TheVariants.{Done, ReadFault, WriteFault, Refused}
-use Rattle.vidi_bench.specs.Steps.{Ending, IsSaid, IsRefusal, Step}
-use Rattle.vidi_bench.specs.Reading.{IsUnread, IsRead, Reading}
-use Rattle.vidi_bench.proofs.Chain.{Implies}
+use Rattle.vidi_answer.specs.declared.status.Status.{Status}
+use Rattle.vidi_answer.specs.declared.status.Status.TheVariants.{Done, ReadFault, WriteFault, Refused}
+use Rattle.vidi_answer.specs.Steps.{Ending, IsSaid, IsRefusal, Step}
+use Rattle.vidi_answer.specs.Reading.{IsUnread, IsRead, Reading}
+use Rattle.vidi_answer.proofs.Chain.{Implies}
 
 -- ---- no failed write
 abbrev pub Mute : Ending → Type 0

@@ -1,18 +1,18 @@
 -- From what ends one step of a command to what the command gives.
-use Rattle.std.proofs.Common.{◌≡◌, ℕ, ◌≤◌, List, Option, Result, Ok, Err, inl, inr, sym, subst, arith}
-use Rattle.std.specs.Prelude.{IfErr}
+use Rattle.std.proofs.Common.{◌≡◌, ℕ, ◌≤◌, List, Option, Result, Ok, Err, inl, inr, refl, sym, subst, arith}
+use Rattle.std.specs.Prelude.{IfErr, IfOk}
 use Rattle.std.specs.Result.{IsErrAnd}
 use Rattle.report_text.specs.vidi_io.Cause.{Rose}
 use Rattle.report_text.specs.vidi_io.Shelf.{Files}
 use Rattle.report_text.specs.declared.reason.Word.{Word}
-use Rattle.vidi_bench.specs.declared.answer.Answer.{Answer}
-use Rattle.vidi_bench.specs.declared.answer.Ended.{Ended}
-use Rattle.vidi_bench.specs.declared.answer.Ended.TheVariants.{Refused, WriteFault, Memory}
-use Rattle.vidi_bench.specs.declared.status.Status.{Status}
-use Rattle.vidi_bench.specs.AnswerText.{text_of}
-use Rattle.vidi_bench.specs.Ended.{EndsWith, IsAnswered, Owes}
-use Rattle.vidi_bench.specs.Reading.{IsRead, IsUnread}
-use Rattle.vidi_bench.specs.Steps.{Ending}
+use Rattle.vidi_answer.specs.declared.answer.Answer.{Answer}
+use Rattle.vidi_answer.specs.declared.answer.Ended.{Ended}
+use Rattle.vidi_answer.specs.declared.answer.Ended.TheVariants.{Refused, WriteFault, Memory}
+use Rattle.vidi_answer.specs.declared.status.Status.{Status}
+use Rattle.vidi_answer.specs.AnswerText.{text_of}
+use Rattle.vidi_answer.specs.Ended.{EndsWith, IsAnswered, Owes}
+use Rattle.vidi_answer.specs.Reading.{IsRead, IsUnread}
+use Rattle.vidi_answer.specs.Steps.{Ending}
 
 abbrev pub Implies : Ending → Ending → Type 0
 Implies E G = (a : Status) (x : List ℕ) → E a x → G a x
@@ -95,3 +95,12 @@ unread-as limit word name files now F G same on a x (inr long) =
 pub read-as : (limit : ℕ) (name : List ℕ) (files now : Option Files) (bytes : List ℕ) → now ≡ files → IsRead limit name now bytes
     → IsRead limit name files bytes
 read-as limit name files now bytes same read = subst (λ (fs : Option Files). IsRead limit name fs bytes) same read
+
+-- ---- what a result holds
+pub if-ends : {X E : Type 0} {P Q : X → Type 0} (r : Result X E) → IfOk r P → ((x : X) → P x → Q x) → IfOk r Q
+if-ends (Ok x) p f = f x p
+if-ends (Err e) p f = tt
+
+pub if-fails : {X E : Type 0} {P Q : E → Type 0} (r : Result X E) → IfErr r P → ((e : E) → r ≡ Err e → P e → Q e) → IfErr r Q
+if-fails (Ok x) p f = tt
+if-fails (Err e) p f = f e refl p

@@ -4,15 +4,15 @@ ghost use Rattle.std.specs.Prelude.{◌≡◌, OnOk, OnErr, IfOk};
 ghost use Rattle.std.specs.Io.KnownBytes.{append_known};
 ghost use Rattle.report_text.specs.vidi_io.Cause.{HasCause};
 ghost use Rattle.report_text.specs.vidi_io.Sink.{AppendsSome, Frame};
-ghost use Rattle.vidi_bench.specs.AnswerText.{text_of};
+ghost use Rattle.vidi_answer.specs.AnswerText.{text_of};
 ghost use Rattle.report_text.specs.Reason.{reason_line};
-ghost use Rattle.vidi_bench.specs.Usage.{usage_line};
+ghost use Rattle.vidi_answer.specs.Usage.{usage_line};
 
 use crate::status::{Reason, Status, Word};
+use report_text::vidi_io::vidi_bits::{Bytes, Memory};
 use report_text::vidi_io::{Failed, Sink};
 use report_text::{Pad, RunLines, TraceLines, reason_line};
 use std::alloc::Global;
-use vlog_parse::vidi_bits::{Bytes, Memory};
 
 /// A text that is still to be said, with all memory that saying it takes.
 #[derive(Drop)]
@@ -46,7 +46,7 @@ pub enum Ended {
 }
 
 impl From<Memory> for Ended {
-    ghost use Rattle.vidi_bench.specs.declared.answer.Ended.TheVariants as ends;
+    ghost use Rattle.vidi_answer.specs.declared.answer.Ended.TheVariants as ends;
 
     ghost from_gives = { λ _ e. e ≡ ends.Memory };
 

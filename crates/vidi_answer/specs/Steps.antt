@@ -2,8 +2,8 @@
 use Rattle.std.specs.Prelude.{◌≡◌, ℕ, ◌⊎◌, List, Option, Some}
 use Rattle.report_text.specs.declared.reason.Word.{Word}
 use Rattle.report_text.specs.declared.reason.Reason.{Reason}
-use Rattle.vidi_bench.specs.declared.status.Status.{Status}
-use Rattle.vidi_bench.specs.declared.status.Status.TheVariants.{Refused}
+use Rattle.vidi_answer.specs.declared.status.Status.{Status}
+use Rattle.vidi_answer.specs.declared.status.Status.TheVariants.{Refused}
 use Rattle.report_text.specs.Reason.{reason_line}
 
 -- a status with its text, as an answer is told

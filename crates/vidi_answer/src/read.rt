@@ -3,18 +3,18 @@
 ghost use Rattle.std.specs.Prelude.{◌≡◌, ◌≤◌, IfOk, IfErr, length};
 ghost use Rattle.report_text.specs.vidi_io.Cause.{Rose};
 ghost use Rattle.report_text.specs.vidi_io.Shelf.{Later};
-ghost use Rattle.vidi_bench.specs.AnswerText.{text_of};
-ghost use Rattle.vidi_bench.specs.Ended.{EndsWith};
-ghost use Rattle.vidi_bench.specs.Reading.{IsRead, IsUnread};
+ghost use Rattle.vidi_answer.specs.AnswerText.{text_of};
+ghost use Rattle.vidi_answer.specs.Ended.{EndsWith};
+ghost use Rattle.vidi_answer.specs.Reading.{IsRead, IsUnread};
 ghost use Rattle.report_text.specs.Reason.{read_fault_line};
-ghost use Rattle.vidi_bench.specs.Unfetched.{IsUnfetched};
+ghost use Rattle.vidi_answer.specs.Unfetched.{IsUnfetched};
 
 use crate::answer::{Answer, Ended, refused, with_bytes};
 use crate::status::{Reason, Status, Word};
 use report_text::read_fault_line;
+use report_text::vidi_io::vidi_bits::{Bytes, Memory};
 use report_text::vidi_io::{ReadError, Shelf, read_whole};
 use std::alloc::Global;
-use vlog_parse::vidi_bits::{Bytes, Memory};
 
 /// The longest text of a design, a map, a script or a plan of stalls, in bytes.
 pub const TEXT_LIMIT: u64 = 4_194_304;

@@ -1,10 +1,10 @@
 //! How a command ends.
 
 ghost use Rattle.std.specs.Prelude.{◌≡◌};
-ghost use Rattle.vidi_bench.specs.Exit as exit;
+ghost use Rattle.vidi_answer.specs.Exit as exit;
 
-use env_script::run_model::Helds;
-use env_script::trace_model::Events;
+use report_text::run_model::Helds;
+use report_text::run_model::trace_model::Events;
 pub use report_text::{Reason, Word};
 
 /// What a call of `vidi` answers.

@@ -5,8 +5,8 @@ use Rattle.report_text.specs.vidi_io.Shelf.{Files}
 use Rattle.report_text.specs.declared.reason.Word.{Word}
 use Rattle.report_text.specs.declared.reason.Reason.TheVariants.{TooLong}
 use Rattle.report_text.specs.Reason.{read_fault_line}
-use Rattle.vidi_bench.specs.declared.status.Status.TheVariants.{ReadFault}
-use Rattle.vidi_bench.specs.Steps.{Ending, IsSaid, IsRefusal, Step}
+use Rattle.vidi_answer.specs.declared.status.Status.TheVariants.{ReadFault}
+use Rattle.vidi_answer.specs.Steps.{Ending, IsSaid, IsRefusal, Step}
 
 -- where the shelf tells its files: the file of this name is there, and P holds of its bytes
 abbrev pub Told : Option Files → List ℕ → (List ℕ → Type 0) → Type 0

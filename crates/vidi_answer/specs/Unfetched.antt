@@ -4,8 +4,8 @@ use Rattle.report_text.specs.vidi_io.declared.reading.ReadError.{ReadError}
 use Rattle.report_text.specs.vidi_io.declared.reading.ReadError.TheVariants as errors
 use Rattle.report_text.specs.declared.reason.Word.{Word}
 use Rattle.report_text.specs.declared.reason.Reason.TheVariants.{TooLong}
-use Rattle.vidi_bench.specs.declared.status.Status.{Status}
-use Rattle.vidi_bench.specs.declared.status.Status.TheVariants.{ReadFault, Refused}
+use Rattle.vidi_answer.specs.declared.status.Status.{Status}
+use Rattle.vidi_answer.specs.declared.status.Status.TheVariants.{ReadFault, Refused}
 use Rattle.report_text.specs.Reason.{read_fault_line, reason_line}
 
 abbrev pub IsUnfetched : Word → ReadError → Status → List ℕ → Type 0

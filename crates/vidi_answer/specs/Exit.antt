@@ -1,7 +1,7 @@
 -- The exit numbers of the program (this project's profile).
 use Rattle.std.specs.Prelude.{ℕ}
-use Rattle.vidi_bench.specs.declared.status.Status.{Status}
-use Rattle.vidi_bench.specs.declared.status.Status.TheVariants.{Done, Usage, ReadFault, WriteFault, Refused, Unstable, Short, Diverged, Memory}
+use Rattle.vidi_answer.specs.declared.status.Status.{Status}
+use Rattle.vidi_answer.specs.declared.status.Status.TheVariants.{Done, Usage, ReadFault, WriteFault, Refused, Unstable, Short, Diverged, Memory}
 
 abbrev pub exit_number : Status → ℕ
 exit_number Done = 0
