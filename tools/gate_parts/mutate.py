@@ -45,7 +45,7 @@ REFUSED = {
     "compare": {"trace": TRACE, "other": TRACE + rb"|other channels at N"}, "salvage": {"trace": rb"bad trace at 0|too long, limit 134217728"},
     "wrap": {"design": DESIGN + rb"|reserved X|wrapped has EN|wrapped text too long", "map": MAP},
 }
-FINDINGS = rb"(?:(?:differs CH start N|(?:missing|extra) CH (?:start|end) N|early CH (?:start|end) N count N)\n)+diverged\n"
+FINDINGS = rb"(?:(?:epoch N|differs CH start N|(?:missing|extra) (?:CH (?:start|end)|reset) N|early CH (?:start|end) N count N)\n)+diverged\n"
 EVENTS = rb"(?:N start CH(?: N)*\n|N end CH\n)*"
 UNSTABLE = rb"vidi: unstable CH cycle N\n"
 SAID = {
@@ -54,7 +54,7 @@ SAID = {
     ("record", 0): rb"recorded N cycles N packets\n", ("record", 5): UNSTABLE,
     ("replay", 0): rb"replayed N cycles, no divergence\n", ("replay", 5): UNSTABLE, ("replay", 7): FINDINGS,
     ("replay", 6): rb"short after N cycles\n(?:held CH (?:start|end) N\n(?:awaits CH have N need N\n)+)*(?:waits CH (?:start|end) N\n)+",
-    ("dump", 0): rb"(?:channel N (?:in|out) CH(?: N)*\n)+(?:N start CH(?: N)* clock(?: N)+\n|N end CH clock(?: N)+\n)*packets N\n",
+    ("dump", 0): rb"(?:channel N (?:in|out) CH(?: N)*\n)+(?:N gap N\n|N reset\n|N start CH(?: N)* clock(?: N)+\n|N end CH clock(?: N)+\n)*packets N\n",
     ("compare", 0): rb"no divergence\n", ("compare", 7): FINDINGS,
     ("salvage", 0): rb"salvaged N packets\n", ("wrap", 0): rb"wrapped N channels\n",
 }
