@@ -1,7 +1,8 @@
 //! Replays, compared with the rows of the definitions.
 
 ghost use Rattle.std.specs.Prelude.{◌≡◌, ◌<◌, ◌≤◌, ◌^◌, IfSome, length};
-ghost use Rattle.replay_run.specs.trace_code.Encoding.{Encodes, HasEncoding};
+ghost use Rattle.replay_run.specs.Behind.{EncodesPlain};
+ghost use Rattle.replay_run.specs.trace_code.Encoding.{HasEncoding};
 ghost use Rattle.run_reference.specs.run_model.Building.{PortsAreNets};
 ghost use Rattle.run_reference.specs.run_model.MapOf.{IsMapOf};
 ghost use Rattle.run_reference.specs.trace_model.declared.packet.TheConstants.{MOST_CYCLES};
@@ -10,7 +11,7 @@ use crate::traces::trace_of;
 use crate::watched::Watched;
 use replay_run::chan_replayer::{ReplayMachines, ReplayShell};
 use replay_run::trace_code::decode;
-use replay_run::{ReplayOutcome, Replayed, replay};
+use replay_run::{ReplayOutcome, Replayed, has_reset, replay};
 use run_reference::chan_map::Map;
 use run_reference::run_model::Held;
 use run_reference::trace_model::{
@@ -22,11 +23,16 @@ use sample_designs::net_sim::Sim;
 use sample_designs::{Sample, Stage, sample_stage};
 use std::alloc::Global;
 
-/// The trace of these bytes.
+/// The trace of these bytes, which has no reset.
 fn decoded(alloc: Global, bytes: &[u8]) -> Option<Trace>
-    ensures { IfSome result (λ t. Encodes t bytes.now) }
+    ensures { IfSome result (λ t. EncodesPlain t bytes.now) }
 {
-    decode(alloc, bytes).ok()
+    let trace = decode(alloc, bytes).ok()?;
+    if has_reset(trace.packets.as_slice()) {
+        None
+    } else {
+        Some(trace)
+    }
 }
 
 /// The trace of the design's channels with these packets and their number.
@@ -220,25 +226,28 @@ fn has_contents(channels: &[Channel], packet: &Packet, row: &Row) -> bool {
     same && recorded.is_empty()
 }
 
-/// Whether a packet is a row's, with no gap.
+/// Whether a packet is a row's, and no reset.
 fn is_packet_of(channels: &[Channel], packet: &Packet, row: &Row) -> bool {
     let events = packet.starts == row.starts && packet.ends == row.ends;
-    packet.gap == 0 && !packet.reset && events && has_contents(channels, packet, row)
+    !packet.reset && events && has_contents(channels, packet, row)
 }
 
-/// Whether a trace is of these rows: one packet for each row with an event.
+/// Whether a trace is of these rows: one packet for each row with an event, behind as many rows as its gap since the one before.
 fn is_trace_of(trace: &Trace, rows: &[Row]) -> bool {
     let mut same = true;
     let mut left = trace.packets.as_slice();
+    let mut gap: u32 = 0;
     for row in rows {
         if row.starts == 0 && row.ends == 0 {
+            gap = gap.wrapping_add(1);
             continue;
         }
         let Some((packet, behind)) = left.split_first() else {
             return false;
         };
-        same &= is_packet_of(trace.channels.as_slice(), packet, row);
+        same &= packet.gap == gap && is_packet_of(trace.channels.as_slice(), packet, row);
         left = behind;
+        gap = 0;
     }
     same && left.is_empty()
 }
@@ -269,7 +278,7 @@ pub(crate) struct Seen {
 }
 
 /// What the replay of a trace on a shell answers, against these rows.
-#[tactic(auto, using(crate::proofs::Given::trace_given))]
+#[tactic(auto, using(crate::proofs::Given::trace_given, crate::proofs::Given::plain_given))]
 fn answer_of<S: ReplayShell>(
     alloc: Global,
     shell: &mut S,
@@ -281,7 +290,7 @@ fn answer_of<S: ReplayShell>(
 ) -> Option<Seen>
     requires mapped { S.map shell.old ≡ map.now }
     requires channels { map.now.channels ≡ trace.now.channels }
-    requires trace { Encodes trace.now bytes.now }
+    requires trace { EncodesPlain trace.now bytes.now }
     requires few { cycles ≤ MOST_CYCLES }
 {
     let mut shell = Watched::new(shell, rows);
@@ -305,7 +314,7 @@ fn answer_on(
     requires nets { PortsAreNets sim.design }
     requires mapped { IsMapOf sim.design map.now }
     requires channels { map.now.channels ≡ trace.now.channels }
-    requires trace { Encodes trace.now bytes.now }
+    requires trace { EncodesPlain trace.now bytes.now }
     requires few { cycles ≤ MOST_CYCLES }
 {
     let Ok(mut shell) = ReplayMachines::new(alloc, sim, map) else {
@@ -323,7 +332,7 @@ fn answer_from(
     cycles: u32,
     rows: &[Row],
 ) -> Option<Seen>
-    requires trace { Encodes trace.now bytes.now }
+    requires trace { EncodesPlain trace.now bytes.now }
     requires few { cycles ≤ MOST_CYCLES }
 {
     let Stage { sim, map } = sample_stage(alloc, sample, &trace.channels)?;
@@ -339,7 +348,7 @@ fn answer_with(
     cycles: u32,
     rows: &[Row],
 ) -> Option<Seen>
-    requires trace { Encodes trace.now bytes.now }
+    requires trace { EncodesPlain trace.now bytes.now }
     requires few { cycles ≤ MOST_CYCLES }
     requires rows { length rows.now < 2 ^ 32 }
 {
@@ -356,7 +365,7 @@ fn answer_in(
     bytes: &[u8],
     cycles: u32,
 ) -> Option<Seen>
-    requires trace { Encodes trace.now bytes.now }
+    requires trace { EncodesPlain trace.now bytes.now }
     requires few { cycles ≤ MOST_CYCLES }
 {
     let rows = rows_of(alloc, sample, trace, cycles)?;

@@ -2,7 +2,7 @@
 
 use crate::agreeing::{Seen, see_replay};
 use crate::reference_tests::{holds_second, is_first_of_b};
-use crate::traces::{LAST_END_MISSING, NONE, ONE, ROUND, STARTS, THREE, TWO, trace_of};
+use crate::traces::{BARE, LAST_END_MISSING, LATE, NONE, ONE, ROUND, STARTS, THREE, TWO, trace_of};
 use replay_run::ReplayOutcome;
 use run_reference::run_model::Held;
 use sample_designs::Sample;
@@ -80,6 +80,23 @@ const EXAMPLES: &[Example] = &[
         cycles: 10,
         due: Due::Unstable { cycle: 2 },
         shown: STARTS,
+    },
+    // The valid rises in row 1, whenever it is recorded.
+    Example {
+        name: "a gap before the first packet",
+        sample: Sample::Flick,
+        packets: BARE,
+        cycles: 10,
+        due: Due::Ended { cycles: 2 },
+        shown: LATE,
+    },
+    Example {
+        name: "a recorded gap",
+        sample: Sample::Flick,
+        packets: LATE,
+        cycles: 10,
+        due: Due::Ended { cycles: 2 },
+        shown: LATE,
     },
     Example {
         name: "a round of the register file",

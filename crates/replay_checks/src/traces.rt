@@ -4,12 +4,12 @@ use run_reference::trace_model::names;
 use sample_designs::Sample;
 use std::alloc::Global;
 
-const TWO_HEADER: &[u8] = b"VIDITRC1\x02\x00\x01a\x01\x08\x01\x01b\x01\x08";
+const TWO_HEADER: &[u8] = b"VIDITRC2\x02\x00\x01a\x01\x08\x01\x01b\x01\x08";
 
 const REGS_HEADER: &[u8] =
-    b"VIDITRC1\x05\x00\x02aw\x01\x20\x00\x01w\x02\x20\x04\x01\x01b\x01\x02\x00\x02ar\x01\x20\x01\x01r\x02\x20\x02";
+    b"VIDITRC2\x05\x00\x02aw\x01\x20\x00\x01w\x02\x20\x04\x01\x01b\x01\x02\x00\x02ar\x01\x20\x01\x01r\x02\x20\x02";
 
-const FLICK_HEADER: &[u8] = b"VIDITRC1\x01\x01\x01b\x00";
+const FLICK_HEADER: &[u8] = b"VIDITRC2\x01\x01\x01b\x00";
 
 /// The header of a trace of the design's channels.
 fn header(sample: Sample) -> &'static [u8] {
@@ -29,30 +29,36 @@ pub(crate) fn trace_of(alloc: Global, sample: Sample, packets: &[u8]) -> Option<
 }
 
 /// Packets of two channels: `a` starts and completes, then `b`.
-pub(crate) const TWO: &[u8] = b"\x01\x01\x01\x05\x01\x02\x02\x05\x00\x00\x00\x00\x02";
+pub(crate) const TWO: &[u8] =
+    b"\x01\x00\x00\x01\x01\x05\x01\x00\x00\x02\x02\x05\x00\x00\x00\x00\x02";
 
 /// The same without `b`.
-pub(crate) const ONE: &[u8] = b"\x01\x01\x01\x05\x00\x00\x00\x00\x01";
+pub(crate) const ONE: &[u8] = b"\x01\x00\x00\x01\x01\x05\x00\x00\x00\x00\x01";
 
 /// `a` starts and completes, then `b` starts.
-pub(crate) const LAST_END_MISSING: &[u8] = b"\x01\x01\x01\x05\x01\x02\x00\x05\x00\x00\x00\x00\x02";
+pub(crate) const LAST_END_MISSING: &[u8] =
+    b"\x01\x00\x00\x01\x01\x05\x01\x00\x00\x02\x00\x05\x00\x00\x00\x00\x02";
 
 /// `a` starts and completes, then `b`, then `a` again.
 pub(crate) const THREE: &[u8] =
-    b"\x01\x01\x01\x05\x01\x02\x02\x05\x01\x01\x01\x06\x00\x00\x00\x00\x03";
+    b"\x01\x00\x00\x01\x01\x05\x01\x00\x00\x02\x02\x05\x01\x00\x00\x01\x01\x06\x00\x00\x00\x00\x03";
 
 /// `a` starts, then `b`.
-pub(crate) const STARTS: &[u8] = b"\x01\x01\x00\x05\x01\x02\x00\x07\x00\x00\x00\x00\x02";
+pub(crate) const STARTS: &[u8] =
+    b"\x01\x00\x00\x01\x00\x05\x01\x00\x00\x02\x00\x07\x00\x00\x00\x00\x02";
 
 /// No packet.
 pub(crate) const NONE: &[u8] = b"\x00\x00\x00\x00\x00";
 
 /// A packet of a channel without content, in which a transaction starts and completes.
-pub(crate) const BARE: &[u8] = b"\x01\x01\x01\x00\x00\x00\x00\x01";
+pub(crate) const BARE: &[u8] = b"\x01\x00\x00\x01\x01\x00\x00\x00\x00\x01";
+
+/// The same a cycle later.
+pub(crate) const LATE: &[u8] = b"\x01\x00\x01\x01\x01\x00\x00\x00\x00\x01";
 
 /// Packets of the register file: a word is written and read again.
 pub(crate) const ROUND: &[u8] =
-    b"\x01\x03\x03\x00\x00\x00\x00\x00\x00\x03\xe8\x0f\x01\x04\x04\x00\x01\x08\x08\x00\x00\x00\x00\x01\x10\x10\x00\x00\x03\xe8\x00\x00\x00\x00\x00\x04";
+    b"\x01\x00\x00\x03\x03\x00\x00\x00\x00\x00\x00\x03\xe8\x0f\x01\x00\x00\x04\x04\x00\x01\x00\x00\x08\x08\x00\x00\x00\x00\x01\x00\x00\x10\x10\x00\x00\x03\xe8\x00\x00\x00\x00\x00\x04";
 
 /// The mask of all the design's channels.
 fn all(sample: Sample) -> u8 {
@@ -110,12 +116,13 @@ fn push_contents(out: &mut Vec<u8>, sample: Sample, starts: u8, state: u64) -> O
     Some(drawn)
 }
 
-/// Adds a packet, where something starts or ends in it, and gives the last number drawn.
+/// Adds a packet behind a gap of at most three cycles, where something starts or ends in it, and gives the last number drawn.
 fn push_packet(out: &mut Vec<u8>, sample: Sample, starts: u8, ends: u8, state: u64) -> Option<u64> {
     if starts | ends == 0 {
         return Some(state);
     }
-    out.extend_from_slice(&[1, starts, ends]).ok()?;
+    let gap = byte(state) & 3;
+    out.extend_from_slice(&[1, 0, gap, starts, ends]).ok()?;
     push_contents(out, sample, starts, state)
 }
 
@@ -138,19 +145,22 @@ pub(crate) fn drawn_trace(alloc: Global, sample: Sample, number: u64) -> Option<
     Some(out)
 }
 
-/// Adds a round of the register file: a word is written and read again. Where `early`, the address comes a cycle before the word.
+/// Adds a round of the register file: a word is written and read again. Where `early`, there is a gap of three cycles before it, and the
+/// address comes a cycle before the word.
 fn push_round(out: &mut Vec<u8>, round: u8, early: bool) -> Option<()> {
     let at = round % 16 * 4;
     let [high, low] = (1000 + u16::from(round)).to_be_bytes();
     if early {
-        let packets = [1, 1, 0, 0, 0, 0, at, 1, 2, 3, 0, 0, high, low, 15];
+        let packets = [
+            1, 0, 3, 1, 0, 0, 0, 0, at, 1, 0, 0, 2, 3, 0, 0, high, low, 15,
+        ];
         out.extend_from_slice(&packets).ok()?;
     } else {
-        let packet = [1, 3, 3, 0, 0, 0, at, 0, 0, high, low, 15];
+        let packet = [1, 0, 0, 3, 3, 0, 0, 0, at, 0, 0, high, low, 15];
         out.extend_from_slice(&packet).ok()?;
     }
     let rest = [
-        1, 4, 4, 0, 1, 8, 8, 0, 0, 0, at, 1, 16, 16, 0, 0, high, low, 0,
+        1, 0, 0, 4, 4, 0, 1, 0, 0, 8, 8, 0, 0, 0, at, 1, 0, 0, 16, 16, 0, 0, high, low, 0,
     ];
     out.extend_from_slice(&rest).ok()
 }
