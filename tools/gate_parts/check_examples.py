@@ -1,9 +1,9 @@
 """Plays each example with `vidi run` and compares the exit status and the text with what its run.out has. Where it has a plan of
-stalls, records it too and compares what `vidi record` and then `vidi dump` of the trace print with its record.out, and the bytes with trace.hex.
+stalls, records it too and compares what `vidi record` and then `vidi dump` of the trace print with its record.out.
 
     gate check examples [FOLDER]
 
-An example is a folder of FOLDER, or of examples/, with the files design.v, map, script and run.out, and maybe stalls, record.out and trace.hex.
+An example is a folder of FOLDER, or of examples/, with the files design.v, map, script and run.out, and maybe stalls and record.out.
 """
 import os
 import subprocess
@@ -11,7 +11,6 @@ import sys
 import tempfile
 
 from vidi_tools import tool_kit
-from vidi_tools import trace_kit
 
 
 def printed(vidi, folder, *words):
@@ -31,19 +30,13 @@ def parting(ours, folder, name):
     return f"the last newline of {name} differs"
 
 
-def digits_of(path):
-    """The bytes of a file in digits, as trace.hex has them."""
-    with open(path, "rb") as file:
-        return trace_kit.digits_of(file.read()).encode()
-
-
 def recording_fault(vidi, folder):
     """What is wrong with the recording of this example, or None."""
     with tempfile.TemporaryDirectory() as room:
         trace = os.path.join(room, "trace")
         recorded, fault = printed(vidi, folder, "record", "design.v", "map", "script", "stalls", trace)
         dumped, broken = printed(vidi, folder, "dump", trace)
-        return fault or broken or parting(recorded + dumped, folder, "record.out") or parting(digits_of(trace), folder, "trace.hex")
+        return fault or broken or parting(recorded + dumped, folder, "record.out")
 
 
 def fault(vidi, folder):

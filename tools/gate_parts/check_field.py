@@ -271,5 +271,28 @@ def check_explain_order(checker):
                   ["and 2 more; --most says how many are explained", "diverged"], 7))
 
 
+# What `explain` says of two traces that part in epoch 1, and that OTHER has a reset more, by hand.
+EPOCHS = """first in time, in packet 2:
+differs a start 0: start 0 of a in epoch 1 (the first is 0): the contents differ
+  content 0: A 2 (0x2), B 4 (0x4), bits that differ: 1 2
+  > a 0: A packets 2 to 2, 2 (0x2); B packets 2 to 2, 4 (0x4)
+then, by channel:
+extra reset 1: reset 1 (the first is 0): A hasn't it
+diverged
+"""
+
+
+def check_epochs(checker):
+    """Traces with resets: where they part, and how a dump of one is drawn, in which a reset takes back what waits."""
+    table, reset = [trace_kit.Table("a", True, [8]), trace_kit.Table("b", False, [8])], trace_kit.Packet({}, [], 3, True)
+    for name, second, last in (("side_a", 2, []), ("side_b", 4, [reset])):
+        packets = [trace_kit.Packet({"a": [1]}, ["a"]), reset, trace_kit.Packet({"a": [second]}, ["a"]), trace_kit.Packet({"b": [9]}, ["b"], 2)]
+        tool_kit.write(os.path.join(checker.folder, name), trace_kit.encoded(table, packets + last))
+    checker.case("explain of epochs", checker.run("explain", "side_a", "side_b"), (EPOCHS, 7))
+    dump = ("channel 0 in a 8\nchannel 1 out b 8\n0 gap 2\n0 start a 5 clock 0 0\n1 start b 1 clock 0 0\n1 end b clock 0 0\n2 gap 7\n2 reset\n"
+            "3 start a 6 clock 0 0\n3 end a clock 0 0\npackets 4\n")
+    checker.case("show of a reset", checker.run("show", given=dump), ("  0\na <-R|\nb .|R.\n", 0))
+
+
 CHECKS = (check_undriven, check_ranges, check_capture_notes, check_capture_forms, check_capture_length, check_capture_run, check_map_more,
-          check_explain_order)
+          check_explain_order, check_epochs)

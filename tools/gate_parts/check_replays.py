@@ -8,6 +8,7 @@ import tempfile
 
 from vidi_tools import icarus_rows
 from make_kinds import random_design
+from make_kinds import wide
 from vidi_tools import same_transfers
 from vidi_tools import tool_kit
 from vidi_tools import trace_kit
@@ -200,16 +201,19 @@ def check_replayers(checker):
 
 
 def check_random(checker):
-    """Random designs with up to 26 channels and contents of up to 128 bits, by clocks in Icarus, which starts all state at 0."""
+    """Random designs with up to 26 channels and contents of up to 128 bits, and stages with 40 channels, by clocks in Icarus, which starts all state
+    at 0."""
     if not checker.has("benches of random designs", "iverilog"):
         return
-    for seed, count in ((9, 9), (26, 26), (1, None), (2, None), (3, None), (4, None), (5, None), (6, None)):
-        for file, text in random_design.made(seed, count).items():
+    made = [(f"random design {seed}", random_design.made(seed, count)) for seed, count in ((9, 9), (26, 26), *((seed, None) for seed in range(1, 7)))]
+    stages = {"design.v": wide.design(20), "map": wide.channels(20), "script": wide.script(20, 12), "stalls": "capacity 2000\ndrain 90 1\n"}
+    for name, texts in [*made, ("40 channels", stages)]:
+        for file, text in texts.items():
             checker.write(file, text)
-        checker.write("zero.v", "`define FOUND_MEMORY logic\n" + same_transfers.from_zero(random_design.made(seed, count)["design.v"]))
+        checker.write("zero.v", "`define FOUND_MEMORY logic\n" + same_transfers.from_zero(texts["design.v"]))
         _, status = checker.run("vidi", "record", "design.v", "map", "script", "stalls", "trace")
-        checker.case(f"the recording of random design {seed}", status in (0, 5), True)
-        by_clocks(checker, in_icarus, f"random design {seed}", ["zero.v", "design.v", "map"], "trace")
+        checker.case(f"the recording of {name}", status in (0, 5), True)
+        by_clocks(checker, in_icarus, name, ["zero.v", "design.v", "map"], "trace")
 
 
 WORDS = [  # the words of bench, and what it says

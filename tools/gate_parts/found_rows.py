@@ -1,8 +1,8 @@
 """Prints what Vidi has to print of a design as it was found, with Icarus in the place of Vidi: for the gallery of examples/.
 
-    gate found FOUND MAP SCRIPT                   the lines of vidi run
-    gate found [--trace] FOUND MAP SCRIPT STALLS  those of vidi record and of vidi dump of its trace, or the bytes of that
-    gate found --bug FOUND MAP SCRIPT EDIT        those of the planted bug: the last line of an unstable run; else those of vidi compare of
+    gate found FOUND MAP SCRIPT             the lines of vidi run
+    gate found FOUND MAP SCRIPT STALLS      those of vidi record and of vidi dump of its trace
+    gate found --bug FOUND MAP SCRIPT EDIT  those of the planted bug: the last line of an unstable run; else those of vidi compare of
                                                the recordings of both, found by the definition of early, missing and unequal events
 
 EDIT has a line `old: TEXT` and a line `new: TEXT`; the old text stands once in FOUND.
@@ -58,7 +58,7 @@ def findings(rows, others, names):
 
 def main():
     """Prints the lines."""
-    is_bug, words = sys.argv[1] == "--bug", [word for word in sys.argv[1:] if word not in ("--bug", "--trace")]
+    is_bug, words = sys.argv[1] == "--bug", [word for word in sys.argv[1:] if word != "--bug"]
     text, plan, script = tool_kit.text_of(words[0]), icarus_rows.Map(words[1]), icarus_rows.lines(words[2])
     names = [channel[0] for channel in plan.channels]
     if is_bug:
@@ -68,8 +68,7 @@ def main():
         print("\n".join(lines))
     elif len(words) > 3:
         rows, unstable, widths = rows_of(text, plan, script, words[3])
-        trace = icarus_rows.trace_of(plan, widths, rows)
-        sys.stdout.write(icarus_rows.text_of_recording(trace, rows, unstable, "--trace" in sys.argv))
+        icarus_rows.say_recording(plan, widths, rows, unstable)
     else:
         rows, unstable, _ = rows_of(text, plan, script)
         sys.stdout.write(icarus_rows.text_of_rows(rows, unstable))

@@ -5,8 +5,8 @@ examples' own.
   `LINE` and `LINE`.
 - files.case of docs/FILES.md: a file is a block fenced by ```map, ```script or ```stalls, and behind it stands: `vidi run` prints `LINE`,
   or for a plan of stalls `vidi record` prints `LINE`. It takes the place of the file of this name among those of examples/pass.
-- examples.case of examples/: each has design.v, map, script and run.out, and maybe stalls, record.out, which is what `vidi record` and then
-  `vidi dump` print, and trace.hex, which has the bytes of the trace, with the same lines.
+- examples.case of examples/: each has design.v, map, script and run.out, and maybe stalls and record.out, which is what `vidi record` and
+  then `vidi dump` print; the bytes of the trace are those of its dump (docs/FILES.md).
 
 A refused file has the status 4, any other one 0.
 """
@@ -69,13 +69,27 @@ def files():
     return "".join(cases)
 
 
+def trace_bytes(dump, where):
+    """The bytes of the trace of which these are the lines."""
+    events, table, count, _ = tool_kit.events_of(dump, where)
+    packets = [trace_kit.Packet({}, []) for _ in range(count)]
+    for at, kind, name, numbers in events:
+        if kind == "start":
+            packets[at].starts[name] = numbers
+        elif kind == "end":
+            packets[at].ends.append(name)
+        else:
+            packets[at] = packets[at]._replace(**({"gap": numbers[0]} if kind == "gap" else {"is_reset": True}))
+    channels = [trace_kit.Table(name, direction == "in", widths) for name, (direction, widths) in table.items()]
+    return trace_kit.encoded(channels, packets)
+
+
 def recording(name):
     """The cases of an example's recording: the command, and the dump of the trace that it leaves."""
-    first, *dump = example_file(name, "record.out").splitlines()
-    digits = example_file(name, "trace.hex")
-    if trace_kit.lines_of(trace_kit.read(bytes.fromhex(digits))) != dump:
-        raise Problem(f"examples/{name}: trace.hex has another trace than record.out")
-    return f"== {WORDS['record']}\n{ending([first])}>x trace\n{digits}++ dump trace\n{ending(dump)}"
+    first, dump = example_file(name, "record.out").split("\n", 1)
+    trace = trace_bytes(dump, f"record.out of {name}")
+    digits = "".join(f"{trace[at:at + 40].hex()}\n" for at in range(0, len(trace), 40))
+    return f"== {WORDS['record']}\n{ending([first])}>x trace\n{digits}++ dump trace\n{ending(dump.splitlines())}"
 
 
 def examples():

@@ -19,25 +19,48 @@ MEANINGS = {"differs": "the contents differ", "missing": "B hasn't it", "extra":
 
 
 class Trace:
-    """A trace as `vidi dump` tells it: the packets of each channel's transactions, and the names of channels in order."""
+    """A trace as `vidi dump` tells it: the packets of each channel's transactions, epoch by epoch, and the names of channels in order."""
 
     def __init__(self, path):
         text, status = tool_kit.vidi("dump", path)
         if status:
             raise Problem(f"{path}: {text.strip() or 'vidi dump failed'}")
         events, self.widths, self.length, _ = tool_kit.events_of(text, path)
-        self.found, self.names = tool_kit.transactions_of(events), list(self.widths)
-        self.clocks, counts = {}, {}
+        self.found, self.names = [tool_kit.transactions_of(part) for part in tool_kit.epochs_of(events)], list(self.widths)
+        self.clocks, counts, epoch = {}, {}, 0
         for words in (line.split() for line in text.splitlines()):
+            if words[1:] == ["reset"]:
+                counts, epoch = {}, epoch + 1
             if "clock" in words:
                 at = counts.setdefault((words[1], words[2]), 0)
-                self.clocks[words[1], words[2], at] = [int(word) for word in words[words.index("clock") + 1:]]
+                self.clocks[epoch, words[1], words[2], at] = [int(word) for word in words[words.index("clock") + 1:]]
                 counts[words[1], words[2]] = at + 1
 
-    def one(self, name, at):
+    def one(self, epoch, name, at):
         """A transaction, or None."""
-        ones = self.found.get(name, [])
+        ones = self.found[epoch].get(name, [])
         return ones[at] if at < len(ones) else None
+
+
+class Finding:
+    """A line of `vidi compare`, of a channel's event in an epoch; or of a reset, which has no channel."""
+
+    def __init__(self, epoch, line):
+        self.epoch, self.line = epoch, line
+        self.kind, *words, self.at = line.split(" count ")[0].split()
+        self.name, self.event = words if len(words) == 2 else (None, words[0])
+        self.at = int(self.at)
+
+
+def findings_of(text):
+    """The findings of `vidi compare`."""
+    found, epoch = [], 0
+    for line in text.splitlines()[:-1]:
+        if line.startswith("epoch "):
+            epoch = int(line.split()[1])
+        else:
+            found.append(Finding(epoch, line))
+    return found
 
 
 def numbers(content):
@@ -61,46 +84,49 @@ def difference(trace, name, one, other):
             yield f"  content {at}: A {a} (0x{a:x}), B {b} (0x{b:x}), bits that differ: {' '.join(map(str, bits))}"
 
 
-def waits_for(traces, kind, name, at):
+def waits_for(traces, finding):
     """The channels of whose completions B had fewer before this event than A."""
-    a, b = (trace.clocks.get((kind, name, at)) for trace in traces)
+    a, b = (trace.clocks.get((finding.epoch, finding.event, finding.name, finding.at)) for trace in traces)
     for channel, had, has in zip(traces[0].names, a or [], b or []):
         if has < had:
             yield f"  completions of {channel} before it: A {had}, B {has}"
 
 
-def neighbours(traces, name, at):
+def neighbours(traces, finding):
     """The transactions of this channel round a finding, of both traces side by side, and what else was in flight in A then."""
+    epoch, name, at = finding.epoch, finding.name, finding.at
     for near in range(max(0, at - AROUND), at + AROUND + 1):
-        ones = [trace.one(name, near) for trace in traces]
+        ones = [trace.one(epoch, name, near) for trace in traces]
         if any(ones):
             yield f"  {'>' if near == at else ' '} {name} {near}: A {said(ones[0])}; B {said(ones[1])}"
-    centre = traces[0].one(name, at)
+    centre = traces[0].one(epoch, name, at)
     for other in traces[0].names if centre else []:
-        for count, one in enumerate(traces[0].found.get(other, [])):
+        for count, one in enumerate(traces[0].found[epoch].get(other, [])):
             last = one.end if one.end is not None else traces[0].length
             if other != name and one.start <= (centre.end or centre.start) and last >= centre.start:
                 yield f"    in A meanwhile: {other} {count}, {said(one)}"
 
 
-def explained(traces, words):
+def explained(traces, finding):
     """The lines that explain one finding of compare."""
-    kind, name, event, at = words[0], words[1], words[2], int(words[3])
-    yield f"{' '.join(words)}: {event} {at} of {name} (the first is 0): {MEANINGS.get(kind, kind)}"
-    ones = [trace.one(name, at) for trace in traces]
-    if kind == "differs" and all(ones):
-        yield from difference(traces[0], name, *ones)
-    if kind == "early":
-        yield from waits_for(traces, event, name, at)
-    yield from neighbours(traces, name, at)
+    meaning, place = MEANINGS.get(finding.kind, finding.kind), f" in epoch {finding.epoch}" * (finding.epoch > 0)
+    if finding.name is None:
+        yield f"{finding.line}: reset {finding.at} (the first is 0): {meaning}"
+        return
+    yield f"{finding.line}: {finding.event} {finding.at} of {finding.name}{place} (the first is 0): {meaning}"
+    ones = [trace.one(finding.epoch, finding.name, finding.at) for trace in traces]
+    if finding.kind == "differs" and all(ones):
+        yield from difference(traces[0], finding.name, *ones)
+    if finding.kind == "early":
+        yield from waits_for(traces, finding)
+    yield from neighbours(traces, finding)
 
 
-def when(traces, words):
+def when(traces, finding):
     """The packet in which a finding's event stands: that of A, or of B where A hasn't it."""
-    name, event, at = words[1], words[2], int(words[3])
-    for trace in traces:
-        one = trace.one(name, at)
-        packet = one and (one.start if event == "start" else one.end)
+    for trace in traces if finding.name is not None else []:
+        one = trace.one(finding.epoch, finding.name, finding.at)
+        packet = one and (one.start if finding.event == "start" else one.end)
         if packet is not None:
             return packet
     return max(trace.length for trace in traces)
@@ -108,15 +134,15 @@ def when(traces, words):
 
 def in_order(traces, findings):
     """The findings in the order in which they are explained, each with the line above it: the first in time, the others, the early ones."""
-    early = [words for words in findings if words[0] == "early"]
-    others = [words for words in findings if words[0] != "early"]
-    first = min(others, key=lambda words: when(traces, words), default=None)
-    rest = [words for words in others if words is not first]
-    for at, words in enumerate([first] * bool(others) + rest + early):
-        head = {0: f"first in time, in packet {when(traces, words)}:", 1: "then, by channel:"} if rest else {}
+    early = [finding for finding in findings if finding.kind == "early"]
+    others = [finding for finding in findings if finding.kind != "early"]
+    first = min(others, key=lambda finding: when(traces, finding), default=None)
+    rest = [finding for finding in others if finding is not first]
+    for at, finding in enumerate([first] * bool(others) + rest + early):
+        head = {0: f"first in time, in packet {when(traces, finding)}:", 1: "then, by channel:"} if rest else {}
         if early and at == len(others):
             head = {at: "come early, which is no other content:"}
-        yield head.get(at), words
+        yield head.get(at), finding
 
 
 def explain_traces(options):
@@ -125,9 +151,9 @@ def explain_traces(options):
     text, status = tool_kit.vidi("compare", *options.words)
     if status not in (0, 7):
         raise Problem(text.strip() or "vidi compare failed")
-    findings = [line.split() for line in text.splitlines() if line not in ("diverged", "no divergence")]
-    for head, words in list(in_order(traces, findings))[:options.most]:
-        print("\n".join([head] * bool(head) + list(explained(traces, words))))
+    findings = findings_of(text)
+    for head, finding in list(in_order(traces, findings))[:options.most]:
+        print("\n".join([head] * bool(head) + list(explained(traces, finding))))
     if len(findings) > options.most:
         print(f"and {len(findings) - options.most} more; --most says how many are explained")
     print(text.splitlines()[-1])

@@ -1,8 +1,7 @@
 """Prints what `vidi run` has to print, with Icarus Verilog in the place of Vidi: for the files run.out of examples/.
-With a plan of stalls it prints what `vidi record` and then `vidi dump` of its trace have to print, for the files record.out; with --trace the
-bytes of that trace, for the files trace.hex.
+With a plan of stalls it prints what `vidi record` and then `vidi dump` of its trace have to print: for the files record.out.
 
-    gate rows [--trace] DESIGN MAP SCRIPT [STALLS]
+    gate rows DESIGN MAP SCRIPT [STALLS]
 
 Icarus (iverilog and vvp) runs the design: a bench reads the pins of each cycle, and prints the outputs before the clock rises.
 This file plays the script and the gates, and makes the rows, with lists and counts of its own. It trusts its files: it refuses nothing.
@@ -255,23 +254,20 @@ def trace_of(plan, widths, rows):
     return trace_kit.Trace(table, trace_kit.packets_of(rows))
 
 
-def text_of_recording(trace, rows, unstable, is_trace):
-    """The line of the recording and the lines of its trace, or the digits of that."""
-    if is_trace:
-        return trace_kit.digits_of(trace_kit.encoded(trace.channels, trace.packets))
-    first = f"vidi: unstable {unstable} cycle {len(rows)}" if unstable else f"recorded {len(rows)} cycles {len(trace.packets)} packets"
-    return "\n".join([first, *trace_kit.lines_of(trace)]) + "\n"
+def say_recording(plan, widths, rows, unstable):
+    """The line of the recording, then the lines of its trace."""
+    trace = trace_of(plan, widths, rows)
+    print(f"vidi: unstable {unstable} cycle {len(rows)}" if unstable else f"recorded {len(rows)} cycles {len(trace.packets)} packets")
+    print("\n".join(trace_kit.lines_of(trace)))
 
 
 def main():
-    """Plays, and prints."""
-    path, map_path, script, *stalls = [word for word in sys.argv[1:] if word != "--trace"]
-    plan = Map(map_path)
+    path, plan, script = sys.argv[1], Map(sys.argv[2]), lines(sys.argv[3])
     with tempfile.TemporaryDirectory() as folder:
         design = Design(path, plan, folder)
-        room = Room(design.widths, stalls[0]) if stalls else AllUp(design.widths)
-        rows, unstable, _ = play(plan, design, lines(script), room)
-    if stalls:
-        sys.stdout.write(text_of_recording(trace_of(plan, design.widths, rows), rows, unstable, "--trace" in sys.argv))
-    else:
-        sys.stdout.write(text_of_rows(rows, unstable))
+        room = Room(design.widths, sys.argv[4]) if len(sys.argv) > 4 else AllUp(design.widths)
+        rows, unstable, _ = play(plan, design, script, room)
+        if len(sys.argv) > 4:
+            say_recording(plan, design.widths, rows, unstable)
+        else:
+            sys.stdout.write(text_of_rows(rows, unstable))

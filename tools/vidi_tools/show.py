@@ -5,7 +5,7 @@
     show LINES --json
 
 LINES are those of `vidi run`, `vidi dump` or a bench of `vidi-tools bench`. A row is a channel, a column a cycle (of a dump: a packet): `<` a
-transaction starts, `-` it waits, `>` it ends, `|` it starts and ends, `.` nothing. With --contents or --hex each transaction follows, with its
+transaction starts, `-` it waits, `>` it ends, `|` it starts and ends, `.` nothing, `R` a reset. With --contents or --hex each transaction follows, with its
 start, its end and its content. With --vcd the channels are written as waves, with valid, fires and contents, and OUT.gtkw beside them opens them
 in GTKWave with contents in hexadecimal. --around shows ten columns before and behind transaction N of a channel, the first is 0, and sets
 GTKWave's marker at its start. --json prints all transactions for other programs.
@@ -21,11 +21,11 @@ from vidi_tools.tool_kit import Problem
 AROUND = 10
 
 
-def marks(transactions, length):
+def marks(transactions, length, resets):
     """The signs of one channel, one for each cycle."""
-    signs = ["."] * length
+    signs = ["R" if at in resets else "." for at in range(length)]
     for one in transactions:
-        end = length - 1 if one.end is None else one.end
+        end = one.last(length)
         signs[one.start:end + 1] = "-" * (end + 1 - one.start)
         signs[one.start] = "|" if one.end == one.start else "<"
         if one.end not in (None, one.start):
@@ -42,14 +42,14 @@ def ruler(first, count):
     return line
 
 
-def timeline(names, found, length, options):
+def timeline(names, found, length, resets, options):
     """The lines of the picture."""
     first, last = options.first, min(length, options.last + 1 if options.last is not None else length)
     if first >= last:
         raise Problem(f"no cycle from {first} on; there are {length}")
     margin = max(map(len, names)) + 1
     count = max(10, options.width - margin)
-    signs = {name: marks(found.get(name, []), length) for name in names}
+    signs = {name: marks(found.get(name, []), length, resets) for name in names}
     for begin in range(first, last, count):
         end = min(last, begin + count)
         yield " " * margin + ruler(begin, end - begin)
@@ -57,12 +57,12 @@ def timeline(names, found, length, options):
             yield name.ljust(margin) + signs[name][begin:end]
 
 
-def contents(names, found, options):
+def contents(names, found, length, options):
     """A line for each transaction that has a cycle in the range."""
     last = options.last if options.last is not None else float("inf")
     for name in names:
         for count, one in enumerate(found.get(name, [])):
-            if one.start <= last and (one.end is None or one.end >= options.first):
+            if one.start <= last and one.last(length) >= options.first:
                 values = " ".join(f"0x{value:x}" if options.hex else str(value) for value in one.content)
                 yield f"{name} {count} from {one.start} to {'-' if one.end is None else one.end}" + (f" content {values}" if values else "")
 
@@ -75,7 +75,7 @@ def waves(names, found, widths, length):
         ports = widths[name][1] if name in widths else seen_widths(ones)
         signals += [(name, "valid", 1), (name, "fires", 1)] + [(name, f"content{at}", width) for at, width in enumerate(ports)]
         for one in ones:
-            end = length - 1 if one.end is None else one.end
+            end = one.last(length)
             changes[10 * (end + 1), name, "valid"] = changes[10 * (end + 1), name, "fires"] = 0
         for one in ones:
             changes[10 * one.start, name, "valid"] = 1
@@ -159,8 +159,8 @@ def main():
     if options.vcd:
         write_waves(options.vcd, names, found, widths, length, marked and marked.start)
         return
-    print("\n".join(timeline(names, found, length, options)))
+    print("\n".join(timeline(names, found, length, {time for time, kind, *_ in events if kind == "reset"}, options)))
     if options.contents or options.hex:
-        print("\n".join(contents(names, found, options)))
+        print("\n".join(contents(names, found, length, options)))
     if ending:
         print(ending)

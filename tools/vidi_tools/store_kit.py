@@ -1,8 +1,6 @@
 """The Verilog of a recorder: a module that watches channels and writes their trace as hexadecimal text, and prints it as `vidi dump` does."""
 from vidi_tools import trace_kit
 
-GAP = "cycle - free > 65535 ? 16'hffff : cycle[15:0] - free[15:0]"  # the cycles between the packet before and this one
-
 
 class Pins:
     """A channel of a map with its number and the widths of its contents, and what its nets are called here."""
@@ -44,6 +42,7 @@ def mask(stem, count):
 def shown_lines(channels):
     """The statements that print a packet as `vidi dump` does."""
     clock, counts = " ".join(["%0d"] * len(channels)), ", ".join(f"done_{channel.number}" for channel in channels)
+    yield '      if (gap != 0) $display("%0d gap %0d", packets, gap);'
     for channel in channels:
         values = "".join(f", {name}" for name in channel.contents("d"))
         form = " ".join(["%0d start", channel.name, *["%0d"] * len(channel.widths), "clock", clock])
@@ -62,6 +61,7 @@ def declared(channels):
     yield '  parameter FILE = "trace.hex";  // the trace, as hexadecimal text'
     yield "  parameter SHOW = 0;            // 1: print each event as vidi dump does"
     yield "  integer file;\n  reg [31:0] packets, cycle, free;"
+    yield "  wire [15:0] gap = cycle - free > 65535 ? 16'hffff : cycle[15:0] - free[15:0];  // the cycles since the packet before"
     for channel in channels:
         at = channel.number
         yield f"  reg fly_{at};\n  integer done_{at};\n  wire start_{at} = v_{at} & ~fly_{at}, stop_{at} = v_{at} & r_{at};"
@@ -85,7 +85,7 @@ def writing(channels):
     yield "  task packet;\n    begin\n      $fwrite(file, \"01\");"
     yield "      if (cycle - free > 65535)"
     yield '        $display("# vidi_store: nothing in %0d cycles before cycle %0d; the trace has 65535 of them, the most", cycle - free, cycle);'
-    yield f'      $fwrite(file, "%h%h%h", {GAP}, {mask("start", count)}, {mask("stop", count)});'
+    yield f'      $fwrite(file, "%h%h%h", gap, {mask("start", count)}, {mask("stop", count)});'
     for channel in channels:
         for name, width in zip(channel.contents("d"), channel.widths):
             yield f'      if (start_{channel.number}) $fwrite(file, "%h", {octets(name, width)});'

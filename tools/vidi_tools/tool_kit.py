@@ -210,8 +210,8 @@ def elaborated(top, files, defines=(), params=(), is_sv=False):
 
 
 def events_of(text, where):
-    """The lines of a run, a dump or a bench: the events (time, kind, channel, numbers), the widths of the channels if they are said, how many
-    cycles or packets there were, and the line that ends a run early, if there is one."""
+    """The lines of a run, a dump or a bench: the events (time, kind, channel, numbers), those of kind gap and reset without a channel, the widths of
+    the channels if they are said, how many cycles or packets there were, and the line that ends a run early, if there is one."""
     events, widths, length, ending = [], {}, None, None
     for line, words in enumerate((text.split() for text in text.split("\n")), 1):
         if not words or words[0] in ("recorded", "VCD", "-") or words[0].startswith("#"):  # what a simulator says beside a bench's lines
@@ -221,6 +221,8 @@ def events_of(text, where):
         elif len(words) >= 3 and words[0].isdigit() and words[1] in ("start", "end"):
             content = words[3:words.index("clock")] if "clock" in words else words[3:]
             events.append((int(words[0]), words[1], words[2], [int(word) for word in content]))
+        elif words[0].isdigit() and (words[1:] == ["reset"] or words[1:2] == ["gap"] and len(words) == 3 and words[2].isdigit()):
+            events.append((int(words[0]), words[1], "", [int(word) for word in words[2:]]))
         elif words[0] in ("cycles", "packets") and len(words) == 2 and words[1].isdigit():
             length = int(words[1])
         elif words[0] == "vidi:":
@@ -234,10 +236,14 @@ def events_of(text, where):
 
 
 class Transaction:
-    """A transaction of a channel: where it started and ended (None while it is in flight), and its content."""
+    """A transaction of a channel: where it started and ended (None while it is in flight), its content, and the reset that took it back, or None."""
 
     def __init__(self, start, content):
-        self.start, self.end, self.content = start, None, content
+        self.start, self.end, self.content, self.reset = start, None, content, None
+
+    def last(self, length):
+        """The last of so many cycles or packets in which it is: where it ends, or before it is taken back."""
+        return self.end if self.end is not None else (length if self.reset is None else self.reset) - 1
 
 
 def lines_of_row(cycle, started, ended):
@@ -251,11 +257,25 @@ def transactions_of(events):
     for time, kind, name, content in events:
         if kind == "start":
             found.setdefault(name, []).append(Transaction(time, content))
-        elif name in found:
+        elif kind == "reset":
+            for one in (ones[-1] for ones in found.values() if ones[-1].end is None and ones[-1].reset is None):
+                one.reset = time
+        elif kind == "end" and name in found:
             found[name][-1].end = time
-        else:
+        elif kind == "end":
             raise Problem(f"{name} ends at {time} and hasn't started")
     return found
+
+
+def epochs_of(events):
+    """The events of a trace in parts, between one reset and the next."""
+    parts = [[]]
+    for event in events:
+        if event[1] == "reset":
+            parts.append([])
+        else:
+            parts[-1].append(event)
+    return parts
 
 
 def name_and_value(word):

@@ -173,17 +173,14 @@ def encoded(channels, packets):
     return bytes(out + b"\0" + len(packets).to_bytes(4, "big"))
 
 
-def digits_of(content):
-    """The bytes in hexadecimal digits, in lines of 40."""
-    return "".join(f"{content[at:at + 40].hex()}\n" for at in range(0, len(content), 40))
-
-
 def lines_of(trace):
-    """The lines of `vidi dump`, of a trace without a reset."""
+    """The lines of `vidi dump`."""
     lines, done = [], {channel.name: 0 for channel in trace.channels}
     for number, channel in enumerate(trace.channels):
         lines.append(" ".join(map(str, ("channel", number, "in" if channel.is_inward else "out", channel.name, *channel.widths))))
     for number, packet in enumerate(trace.packets):
+        lines += [f"{number} gap {packet.gap}"] * (packet.gap > 0) + [f"{number} reset"] * packet.is_reset
+        done = dict.fromkeys(done, 0) if packet.is_reset else done
         clock = " ".join(map(str, ("clock", *done.values())))
         lines += [" ".join(map(str, (number, "start", name, *content, clock))) for name, content in packet.starts.items()]
         lines += [f"{number} end {name} {clock}" for name in packet.ends]

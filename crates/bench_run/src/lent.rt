@@ -18,6 +18,13 @@ impl<'a, B: Block> Lent<'a, B> {
     {
         Lent { block }
     }
+
+    /// The block, to look at.
+    pub fn get(&self) -> &B
+        ensures { result.now ≡ self.now.block.now }
+    {
+        self.block
+    }
 }
 
 impl<'a, B: Block> Block for Lent<'a, B> {

@@ -64,6 +64,15 @@ impl<'a, B: Block + Drop> Machines<'a, B> {
     }
 }
 
+impl<'a, B: Block> Machines<'a, B> {
+    /// The block that the monitors are round: after a `drive` it shows the numbers of that row.
+    pub fn block(&self) -> &B
+        ensures { result.now ≡ self.now.block }
+    {
+        &self.block
+    }
+}
+
 impl<'a, B: Block> Shell for Machines<'a, B> {
     ghost use Rattle.chan_monitor.specs.Around.{IsAround, IsDriven};
 

@@ -125,6 +125,14 @@ impl Sim {
         })
     }
 
+    /// The number of net n of the design in what was settled last.
+    pub fn number(&self, n: usize) -> u128
+        requires { n < length self.now.design.nets }
+        ensures { result ≡ slice_index (shown_in self.now.design (through self.now.places self.now.slots)).nets n }
+    {
+        number_seen(&self.places, &self.slots, n)
+    }
+
     /// The number that a net settled to last, by its full name: the names of the instances down to it and its own, joined by
     /// dots. None exactly where no net has this name.
     pub fn net(&self, name: &[u8]) -> Option<u128>

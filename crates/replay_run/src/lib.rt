@@ -17,7 +17,7 @@ mod replaying;
 
 pub use laws::one_outcome;
 pub use outcome::{ReplayOutcome, Replayed};
-pub use replaying::replay;
+pub use replaying::{has_reset, replay};
 pub use run_stage;
 pub use run_stage::chan_replayer::{Feed, Needs, ReplayMachines, ReplayShell};
 pub use run_stage::run_model::{Await, Awaits, Held, Helds};

@@ -1,6 +1,6 @@
 //! The replay.
 
-ghost use Rattle.std.specs.Prelude.{◌≡◌, ◌≤◌, [], ℕ, List, IfOk, OnErr, length};
+ghost use Rattle.std.specs.Prelude.{◌≡◌, ◌≤◌, ◌↔◌, [], ℕ, List, false, IfOk, OnErr, length};
 ghost use Rattle.trace_code.specs.trace_model.declared.packet.TheConstants.{MOST_CYCLES};
 ghost use Rattle.trace_code.specs.trace_model.declared.row.Row.{Row as OneRow};
 ghost use Rattle.trace_code.specs.trace_model.declared.trace.Trace.{Trace};
@@ -23,7 +23,7 @@ use run_stage::chan_map::Map;
 use run_stage::chan_replayer::ReplayShell;
 use run_stage::{Ending, TwoRows, play};
 use std::alloc::Global;
-use trace_code::trace_model::Row;
+use trace_code::trace_model::{Packet, Row};
 use trace_code::vidi_bits::Memory;
 
 /// Resets the shell and goes through the cycles of a replay.
@@ -75,6 +75,18 @@ fn outcome_of(ending: Ending, lists: Lists, feeder: &Feeder, last: &Row) -> Repl
             ReplayOutcome::Short { held, waits }
         }
     }
+}
+
+/// Whether one of these packets is a reset: such a trace is not replayed.
+pub fn has_reset(packets: &[Packet]) -> bool
+    ensures { (result ≡ false) ↔ HasNoReset packets.now }
+{
+    for packet in packets {
+        if packet.reset {
+            return true;
+        }
+    }
+    false
 }
 
 /// Replays a trace on a design behind replayers: from a reset of the shell on it plays cycles until the trace has ended, a row is

@@ -3,8 +3,9 @@ use Rattle.std.proofs.Common.{◌≡◌, ℕ, List, [], ◌∷◌, ◌++◌, cod
 use Rattle.std.specs.Fmt.{digits}
 use Rattle.run_model.specs.trace_model.declared.channel.Channel.{Channel}
 use Rattle.run_model.specs.trace_model.declared.channel.Dir.TheVariants.{Inward, Outward}
+use Rattle.run_model.specs.trace_model.declared.event.Event.{Event}
 use Rattle.run_model.specs.trace_model.declared.event.Kind.{Kind}
-use Rattle.run_model.specs.trace_model.declared.event.Kind.TheVariants.{Start, End}
+use Rattle.run_model.specs.trace_model.declared.event.Kind.TheVariants.{Start, End, Reset}
 use Rattle.run_model.specs.declared.held.Await.{Await}
 use Rattle.run_model.specs.Held.{event}
 use Rattle.report_text.specs.Short.{short_lines}
@@ -36,3 +37,18 @@ held_end : short_lines (record { event = event 1 End 2; awaits = await 0 3 4 ∷
     ++ (newline ++ (codes "awaits b have 12 need 13" ++ (newline ++ (codes "waits a end 3" ++ newline))))))))
 unfolding digits
 held_end = refl
+
+-- a reset is waited for once all of its epoch has come
+abbrev reset : ℕ → Event
+reset j = record { channel = 0; kind = Reset; index = j; epoch = j }
+
+short_at_reset : short_lines [] (reset 0 ∷ []) 3 channels
+    ≡ codes "short after 3 cycles" ++ (newline ++ (codes "waits reset 0" ++ newline))
+unfolding digits
+short_at_reset = refl
+
+short_in_epoch : short_lines (record { event = reset 1; awaits = await 1 0 1 ∷ [] } ∷ []) [] 7 channels
+    ≡ codes "short after 7 cycles" ++ (newline ++ (codes "epoch 1" ++ (newline ++ (codes "held reset 1" ++ (newline
+    ++ (codes "awaits b have 0 need 1" ++ newline))))))
+unfolding digits
+short_in_epoch = refl

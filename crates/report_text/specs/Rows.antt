@@ -6,6 +6,7 @@ use Rattle.run_model.specs.trace_model.declared.channel.Channel.{Channel}
 use Rattle.run_model.specs.trace_model.declared.row.Row.{Row}
 use Rattle.run_model.specs.trace_model.Row.{content_at}
 use Rattle.report_text.specs.Text.{newline, spaced}
+use Rattle.report_text.specs.Trace.{reset_line}
 
 -- `T start CH V ..` for each channel that starts in cycle T, with its content in the row
 abbrev pub row_start : List Channel → ℕ → Row → ℕ × Channel → List ℕ
@@ -22,9 +23,9 @@ row_end t x = decimal t ++ (codes " end " ++ (x.1.name ++ newline))
 abbrev pub row_ends : List Channel → ℕ → Row → List ℕ
 row_ends channels t row = flat_map (λ (x : ℕ × Channel). if has row.ends x.0 then row_end t x else []) (enumerate_from 0 channels)
 
--- a cycle's starts in channel order, then its ends
+-- `T reset` where the design was reset before cycle T, then the cycle's starts in channel order, then its ends
 abbrev pub row_lines : List Channel → ℕ × Row → List ℕ
-row_lines channels x = row_starts channels x.0 x.1 ++ row_ends channels x.0 x.1
+row_lines channels x = reset_line x.0 x.1.fresh ++ (row_starts channels x.0 x.1 ++ row_ends channels x.0 x.1)
 
 -- what `run` prints of its rows
 abbrev pub rows_text : List Row → List Channel → List ℕ

@@ -1,5 +1,5 @@
 -- The lines of a trace (this project's profile).
-use Rattle.std.specs.Prelude.{ℕ, List, [], ◌++◌, length, map, codes, decimal, if◌then◌else◌}
+use Rattle.std.specs.Prelude.{ℕ, ◌==◌, Bool, List, [], ◌++◌, length, map, take, codes, decimal, if◌then◌else◌}
 use Rattle.std.specs.List.{flat_map, enumerate_from, range_with_len}
 use Rattle.text_page.specs.vidi_io.vidi_bits.Number.{has}
 use Rattle.run_model.specs.trace_model.declared.channel.Channel.{Channel}
@@ -7,8 +7,9 @@ use Rattle.run_model.specs.trace_model.declared.channel.Dir.{Dir}
 use Rattle.run_model.specs.trace_model.declared.channel.Dir.TheVariants.{Inward, Outward}
 use Rattle.run_model.specs.trace_model.declared.packet.Packet.{Packet}
 use Rattle.run_model.specs.trace_model.declared.trace.Trace.{Trace}
-use Rattle.run_model.specs.trace_model.Packet.{content_of}
-use Rattle.run_model.specs.trace_model.Clock.{clock}
+use Rattle.run_model.specs.trace_model.Packet.{content_of, count}
+use Rattle.run_model.specs.trace_model.declared.event.Kind.TheVariants.{End}
+use Rattle.run_model.specs.trace_model.Epoch.{since_reset}
 use Rattle.report_text.specs.Text.{newline, spaced}
 
 abbrev pub direction_text : Dir → List ℕ
@@ -27,9 +28,13 @@ packets_line n = codes "packets " ++ (decimal n ++ newline)
 abbrev pub channel_lines : ℕ → List Channel → List ℕ
 channel_lines n channels = flat_map (λ (x : ℕ × Channel). channel_line x.0 x.1) (enumerate_from n channels)
 
+-- the clock of packet p: how many transactions of channel c complete in the packets of its epoch before it
+abbrev pub epoch_clock : List Packet → ℕ → ℕ → ℕ
+epoch_clock packets p c = count End c (since_reset (take p packets))
+
 -- ` clock K ..`: the clock of packet p of n channels, and the end of the line
 abbrev pub clock_text : ℕ → List Packet → ℕ → List ℕ
-clock_text n packets p = codes " clock" ++ (spaced (map (clock packets p) (range_with_len 0 n)) ++ newline)
+clock_text n packets p = codes " clock" ++ (spaced (map (epoch_clock packets p) (range_with_len 0 n)) ++ newline)
 
 -- `P start CH V .. clock K ..` for each channel that starts in packet P, with the content that it starts
 abbrev pub start_line : List Channel → ℕ → Packet → List ℕ → ℕ × Channel → List ℕ
@@ -47,12 +52,23 @@ abbrev pub end_lines : List Channel → ℕ → Packet → List ℕ → List ℕ
 end_lines channels p packet clock = flat_map (λ (x : ℕ × Channel). if has packet.ends x.0 then end_line p clock x else [])
     (enumerate_from 0 channels)
 
--- a packet's starts in channel order, then its ends, each with the packet's clock
-abbrev pub packet_lines : List Channel → List Packet → ℕ × Packet → List ℕ
-packet_lines channels packets x = start_lines channels x.0 x.1 (clock_text (length channels) packets x.0)
-    ++ end_lines channels x.0 x.1 (clock_text (length channels) packets x.0)
+-- `P gap G`, where the gap is above 0
+abbrev pub gap_line : ℕ → ℕ → List ℕ
+gap_line p gap = if gap == 0 then [] else decimal p ++ (codes " gap " ++ (decimal gap ++ newline))
 
--- what `dump` prints of a trace: gaps have no line, and neither has a reset, which has no events and is counted as a packet
+-- `P reset`, of a reset
+abbrev pub reset_line : ℕ → Bool → List ℕ
+reset_line p reset = if reset then decimal p ++ (codes " reset" ++ newline) else []
+
+-- the line of a packet's gap, that of a reset, then a packet's starts in channel order and its ends, each with the packet's clock
+abbrev pub lines_with : List Channel → ℕ → Packet → List ℕ → List ℕ
+lines_with channels p packet clock = gap_line p packet.gap ++ (reset_line p packet.reset
+    ++ (start_lines channels p packet clock ++ end_lines channels p packet clock))
+
+abbrev pub packet_lines : List Channel → List Packet → ℕ × Packet → List ℕ
+packet_lines channels packets x = lines_with channels x.0 x.1 (clock_text (length channels) packets x.0)
+
+-- what `dump` prints of a trace
 abbrev pub dump_text : Trace → List ℕ
 dump_text t = channel_lines 0 t.channels ++ (flat_map (packet_lines t.channels t.packets) (enumerate_from 0 t.packets)
     ++ packets_line (length t.packets))

@@ -8,7 +8,7 @@ ghost use Rattle.text_page.specs.vidi_io.Sink.{AppendsSome, Frame};
 ghost use Rattle.report_text.specs.Rows as said;
 ghost use Rattle.report_text.specs.Text.{newline, spaced};
 
-use crate::trace_text::print_end;
+use crate::trace_text::{print_end, print_reset};
 use run_model::trace_model::{Channel, Channels, Row, Rows, names, split_content};
 use std::alloc::Global;
 use text_page::vidi_io::vidi_bits::{Bytes, Memory};
@@ -95,8 +95,9 @@ fn print_rows<P: Page>(page: &mut P, rows: &[Row], channels: &[Channel])
 
 /// Prints the lines of one row.
 fn print_row<P: Page>(page: &mut P, channels: &[Channel], cycle: usize, row: &Row)
-    ensures { P.went page.old page.new (said.row_starts channels.now cycle row.now ++ said.row_ends channels.now cycle row.now) }
+    ensures { P.went page.old page.new (said.row_lines channels.now (cycle, row.now)) }
 {
+    print_reset(page, cycle, row.fresh);
     print_row_starts(page, channels, cycle, row);
     print_row_ends(page, channels, cycle, row);
 }

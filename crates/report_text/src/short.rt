@@ -4,7 +4,7 @@ ghost use Rattle.std.specs.Prelude.{◌≡◌, ◌++◌, OnOk, IfOk};
 ghost use Rattle.std.specs.List.{flat_map};
 ghost use Rattle.report_text.specs.Short as said;
 
-use crate::report::name_of;
+use crate::report::{name_of, put_epoch};
 use crate::text::{put, put_number};
 use run_model::trace_model::{Channel, Channels, Event, Events, Kind};
 use run_model::{Await, Held, Helds};
@@ -26,9 +26,25 @@ pub fn short_lines(
     put_number(&mut text, cycles)?;
     put(&mut text, b" cycles")?;
     put(&mut text, b"\n")?;
+    put_epoch(
+        &mut text,
+        0,
+        listed_epoch(helds.as_slice(), waits.as_slice()),
+    )?;
     put_helds(&mut text, helds.as_slice(), channels.as_slice())?;
     put_waits(&mut text, waits.as_slice(), channels.as_slice())?;
     Ok(Bytes::from_vec(text))
+}
+
+/// The epoch of the events that are listed, that of the first one.
+fn listed_epoch(helds: &[Held], waits: &[Event]) -> u32
+    ensures { result ≡ said.listed_epoch helds.now waits.now }
+{
+    match (helds.first(), waits.first()) {
+        (Some(held), _) => held.event.epoch,
+        (None, Some(event)) => event.epoch,
+        (None, None) => 0,
+    }
 }
 
 /// Adds the lines of all that is held back.
@@ -93,7 +109,7 @@ fn put_wait(text: &mut Vec<u8>, event: Event, channels: &[Channel]) -> Result<()
 fn put_event(text: &mut Vec<u8>, event: Event, channels: &[Channel]) -> Result<(), Memory>
     ensures { OnOk result (text.new.items ≡ text.old.items ++ said.event_line channels.now event) }
 {
-    put(text, name_of(channels, event.channel))?;
+    put(text, source(channels, event.channel, event.kind))?;
     put(text, kind_text(event.kind))?;
     put_number(text, event.index)?;
     put(text, b"\n")
@@ -105,6 +121,16 @@ fn kind_text(kind: Kind) -> &'static [u8]
     match kind {
         Kind::Start => b" start ",
         Kind::End => b" end ",
-        Kind::Reset => b" reset ",
+        Kind::Reset => b"reset ",
+    }
+}
+
+/// The name of an event's channel, which a reset hasn't.
+fn source(channels: &[Channel], channel: usize, kind: Kind) -> &[u8]
+    ensures { result.now ≡ said.source channels.now channel kind }
+{
+    match kind {
+        Kind::Start | Kind::End => name_of(channels, channel),
+        Kind::Reset => &[],
     }
 }

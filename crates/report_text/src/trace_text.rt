@@ -80,7 +80,7 @@ fn print_packets<P: Page>(page: &mut P, trace: &Trace, completed: &mut [u64], cl
         }
         put_clock(clock, completed);
         print_packet(page, channels, number, packet, clock.as_slice());
-        count_ends(completed, packet.ends);
+        count_packet(completed, packet);
     }
 }
 
@@ -118,6 +118,19 @@ fn put_count(clock: &mut Pad, count: u64)
     clock.put(buffer.format(count).as_bytes());
 }
 
+/// Adds the completions of a packet to the counts, which are 0 again behind a reset.
+fn count_packet(completed: &mut [u64], packet: &Packet)
+    requires { (c : ℕ) → c < length completed.old → slice_index completed.old c < 2 ^ 64 - 1 }
+    ensures { (c : ℕ) → c < length completed.old → slice_index completed.new c
+        ≡ (if packet.now.reset then 0 else slice_index completed.old c + bit_at packet.now.ends c) }
+{
+    if packet.reset {
+        completed.fill(0);
+    } else {
+        count_ends(completed, packet.ends);
+    }
+}
+
 /// Adds one to the count of each channel that a mask names.
 fn count_ends(completed: &mut [u64], ends: u128)
     requires { (c : ℕ) → c < length completed.old → slice_index completed.old c < 2 ^ 64 - 1 }
@@ -138,11 +151,37 @@ fn print_packet<P: Page>(
     packet: &Packet,
     clock: &[u8],
 )
-    ensures { P.went page.old page.new (said.start_lines channels.now number packet.now clock.now
-        ++ said.end_lines channels.now number packet.now clock.now) }
+    ensures { P.went page.old page.new (said.lines_with channels.now number packet.now clock.now) }
 {
+    print_gap(page, number, packet.gap);
+    print_reset(page, number, packet.reset);
     print_starts(page, channels, number, packet, clock);
     print_ends(page, channels, number, packet, clock);
+}
+
+/// Prints the line of a gap that is above 0.
+fn print_gap<P: Page>(page: &mut P, number: usize, gap: u32)
+    ensures { P.went page.old page.new (said.gap_line number gap) }
+{
+    if gap == 0 {
+        return;
+    }
+    print_number(page, number);
+    page.print(b" gap ");
+    print_number(page, gap);
+    page.print(b"\n");
+}
+
+/// Prints the line of a reset.
+pub(crate) fn print_reset<P: Page>(page: &mut P, number: usize, reset: bool)
+    ensures { P.went page.old page.new (said.reset_line number reset) }
+{
+    if !reset {
+        return;
+    }
+    print_number(page, number);
+    page.print(b" reset");
+    page.print(b"\n");
 }
 
 fn print_starts<P: Page>(

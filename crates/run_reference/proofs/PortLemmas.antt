@@ -9,6 +9,7 @@ use Rattle.std.proofs.lemmas.List.Elements.{All-head, All-tail}
 use Rattle.std.proofs.lemmas.List.FromFn.{map-range_with_len_more}
 use Rattle.run_model.specs.vidi_bits.Number.{has}
 use Rattle.run_model.specs.trace_model.declared.channel.Channel.{Channel}
+use Rattle.run_model.specs.trace_model.declared.packet.TheConstants.{MOST_CHANNELS}
 use Rattle.run_model.specs.trace_model.declared.row.Row.{Row}
 use Rattle.run_model.specs.trace_model.Channel.{IsChannel, IsTable}
 use Rattle.run_model.specs.trace_model.Packet.{widths_of, widths_under}
@@ -46,7 +47,7 @@ few-in (x ∷ xs) all (suc i) =
     omega (arith, head, tail, length-append x.widths (all_widths (take i xs)))
 
 pub few-ports : (cs : List Channel) → IsTable cs → (i : ℕ) → i < length cs
-    → length (all_widths (take i cs)) + length (widths_of (slice_get cs i)) ≤ 528
+    → length (all_widths (take i cs)) + length (widths_of (slice_get cs i)) ≤ 16 * MOST_CHANNELS
 few-ports cs t i l =
     let few = t.few in
     let a = few-in cs t.each (i + 1) in

@@ -2,7 +2,7 @@
 use Rattle.std.proofs.Common.{◌≡◌, ℕ, List, length, Option, None, Some, refl, sym, ap, ◌∙◌}
 use Rattle.std.specs.Io.KnownBytes.{append_known}
 use Rattle.replay_run.specs.trace_model.declared.row.Row.{Row}
-use Rattle.replay_run.specs.trace_model.Recording.{packets_of, trace_of}
+use Rattle.replay_run.specs.trace_model.Recording.{trace_of}
 use Rattle.replay_run.specs.trace_code.Encoding.{encode}
 use Rattle.net_design.specs.declared.design.Design.{Design}
 use Rattle.net_design.specs.declared.values.Values.{Values}
@@ -17,7 +17,7 @@ use Rattle.shim_cosim.specs.Records.{RecordsAlike}
 same_told : (w : Course) (p q : Design → Values → Option Row → Type 0) (f g : List Row → Type 0) (xs ys : List Row) (old one other : Option (List ℕ)) (m n : ℕ) → xs ≡ ys
     → IsRecorded w p f xs old one m → IsRecorded w q g ys old other n → (m ≡ n) × (one ≡ other)
 same_told w p q f g xs ys old one other m n same x y = (
-  x.count ∙ ap (λ (rows : List Row). length (packets_of w.bound.channels rows)) same ∙ sym y.count,
+  x.count ∙ ap (λ (rows : List Row). length (trace_of w.bound.channels rows).packets) same ∙ sym y.count,
   x.told ∙ ap (λ (rows : List Row). append_known old (encode (trace_of w.bound.channels rows))) same ∙ sym y.told,
 )
 

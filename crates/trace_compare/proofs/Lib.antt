@@ -5,3 +5,5 @@ pub mod PairMarks
 pub mod FirstCovers
 pub mod Channels
 pub mod OnChannel
+pub mod EpochParts
+pub mod ByEpoch

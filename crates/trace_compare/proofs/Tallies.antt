@@ -4,8 +4,9 @@ use Rattle.std.proofs.lemmas.List.Sums.{count_by-le-length, prefix_len-le-length
 use Rattle.std.specs.Prelude.{not, nat_lt}
 use Rattle.vec_clock.proofs.trace_model_lemmas.CountingLemmas.{count-push, count-cons}
 use Rattle.trace_compare.specs.declared.tally.Tally.{Tally}
+use Rattle.trace_compare.specs.declared.report.Finding.{Finding}
 use Rattle.trace_compare.specs.declared.report.What.{What}
-use Rattle.trace_compare.specs.Findings.{found, marked, first_marked}
+use Rattle.trace_compare.specs.Findings.{finding_of, found, marked, first_marked}
 use Rattle.trace_compare.specs.Tally.{IsTally}
 
 marked-push : (marks : List Bool) (m : Bool) → marked (marks ++ m ∷ []) ≡ marked marks + cond m 1 0
@@ -62,15 +63,18 @@ before-le marks t is = omega (arith, is.before, prefix_len-le-length (λ (b : Bo
 pub marked-le : (marks : List Bool) (t : Tally) → IsTally marks t → t.marked ≤ length marks
 marked-le marks t is = omega (arith, is.marked, count_by-le-length (λ (b : Bool). b) marks)
 
--- the finding of a tally
-pub found-first : (marks : List Bool) (t : Tally) (c : ℕ) (what : What) → IsTally marks t
-    → found (nat_lt 0 t.marked) c what t.before 1 ≡ found (nat_lt 0 (marked marks)) c what (first_marked marks) 1
-found-first marks t c what is =
-    ap (λ m. found (nat_lt 0 m) c what t.before 1) is.marked ∙ ap (λ k. found (nat_lt 0 (marked marks)) c what k 1) is.before
+-- the finding of a tally, as it is made
+pub found-first : (marks : List Bool) (t : Tally) (e c : ℕ) (what : What) (f : Finding) → IsTally marks t → f ≡ finding_of e c what t.before 1
+    → cond (nat_lt 0 t.marked) (f ∷ []) [] ≡ found (nat_lt 0 (marked marks)) e c what (first_marked marks) 1
+found-first marks t e c what f is made =
+    ap (λ (g : Finding). cond (nat_lt 0 t.marked) (g ∷ []) []) made
+    ∙ ap (λ m. found (nat_lt 0 m) e c what t.before 1) is.marked ∙ ap (λ k. found (nat_lt 0 (marked marks)) e c what k 1) is.before
 
-pub found-counted : (marks : List Bool) (t : Tally) (c : ℕ) (what said : What) → IsTally marks t → said ≡ what
-    → found (nat_lt 0 t.marked) c said t.before t.marked ≡ found (nat_lt 0 (marked marks)) c what (first_marked marks) (marked marks)
-found-counted marks t c what said is e =
-    ap (λ m. found (nat_lt 0 m) c said t.before m) is.marked
-    ∙ ap (λ k. found (nat_lt 0 (marked marks)) c said k (marked marks)) is.before
-    ∙ ap (λ (w : What). found (nat_lt 0 (marked marks)) c w (first_marked marks) (marked marks)) e
+pub found-counted : (marks : List Bool) (t : Tally) (e c : ℕ) (what said : What) (f : Finding) → IsTally marks t → said ≡ what
+    → f ≡ finding_of e c said t.before t.marked
+    → cond (nat_lt 0 t.marked) (f ∷ []) [] ≡ found (nat_lt 0 (marked marks)) e c what (first_marked marks) (marked marks)
+found-counted marks t e c what said f is same made =
+    ap (λ (g : Finding). cond (nat_lt 0 t.marked) (g ∷ []) []) made
+    ∙ ap (λ m. found (nat_lt 0 m) e c said t.before m) is.marked
+    ∙ ap (λ k. found (nat_lt 0 (marked marks)) e c said k (marked marks)) is.before
+    ∙ ap (λ (w : What). found (nat_lt 0 (marked marks)) e c w (first_marked marks) (marked marks)) same

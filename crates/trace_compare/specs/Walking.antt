@@ -36,8 +36,8 @@ abbrev pub early_at : List ℕ → List ℕ → List ℕ → List Bool
 early_at covering in_a in_b = map (λ (x : ℕ × ℕ). nat_lt x.1 (slice_index covering x.0)) (zip in_a in_b)
 
 -- ---- findings, by what they rest on
-abbrev pub only_of : Kind → ℕ → ℕ → ℕ → List Finding
-only_of kind c in_a in_b = found (nat_lt in_b in_a) c (missing kind) in_b 1 ++ found (nat_lt in_a in_b) c (extra kind) in_a 1
+abbrev pub only_of : ℕ → Kind → ℕ → ℕ → ℕ → List Finding
+only_of e kind c in_a in_b = found (nat_lt in_b in_a) e c (missing kind) in_b 1 ++ found (nat_lt in_a in_b) e c (extra kind) in_a 1
 
-abbrev pub early_of : Kind → ℕ → List Bool → List Finding
-early_of kind c marks = found (nat_lt 0 (marked marks)) c (early kind) (first_marked marks) (marked marks)
+abbrev pub early_of : ℕ → Kind → ℕ → List Bool → List Finding
+early_of e kind c marks = found (nat_lt 0 (marked marks)) e c (early kind) (first_marked marks) (marked marks)

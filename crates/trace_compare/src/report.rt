@@ -1,7 +1,7 @@
 //! Findings: places at which two traces are unlike.
 
 ghost use Rattle.std.specs.Prelude.{◌≡◌, [], ◌∷◌, ◌++◌, OnOk, if◌then◌else◌};
-ghost use Rattle.trace_compare.specs.Findings.{missing, extra, early};
+ghost use Rattle.trace_compare.specs.Findings.{finding_of, missing, extra, early};
 
 use vec_clock::trace_model::Kind;
 use vec_clock::vidi_bits::{Items, Memory};
@@ -23,17 +23,46 @@ pub enum What {
     EarlyStart,
     /// A completion comes before a completion that it followed.
     EarlyEnd,
+    /// The first trace alone has a reset.
+    MissingReset,
+    /// The second trace alone has a reset.
+    ExtraReset,
 }
 
-/// The first event of a channel with which something is the matter.
+/// The first event of a channel in an epoch with which something is the matter, or the first reset.
 #[derive(Clone, Copy, PartialEq, Eq)]
 pub struct Finding {
+    /// 0 for a reset.
     pub channel: usize,
     pub what: What,
-    /// The event's number among the starts, or the completions, of the channel, from 0.
+    /// The event's number among the starts, or the completions, of the channel in the epoch, or the reset's among the resets, from 0.
     pub index: u32,
     /// How many events are early, where this one is; else 1.
     pub count: u32,
+    /// How many resets came before the event; 0 for a reset.
+    pub epoch: u32,
+}
+
+/// Where findings are looked for: a channel in an epoch.
+#[derive(Clone, Copy)]
+pub(crate) struct Site {
+    pub(crate) epoch: u32,
+    pub(crate) channel: usize,
+}
+
+impl Site {
+    /// The finding there of this kind.
+    pub(crate) fn finding(self, what: What, index: u32, count: u32) -> Finding
+        ensures { result ≡ finding_of self.epoch self.channel what index count }
+    {
+        Finding {
+            channel: self.channel,
+            what,
+            index,
+            count,
+            epoch: self.epoch,
+        }
+    }
 }
 
 /// A list of findings.
@@ -44,9 +73,9 @@ pub(crate) fn missing(kind: Kind) -> What
     ensures { result ≡ missing kind }
 {
     match kind {
-        // It isn't asked of a reset, of which no channel has one.
-        Kind::Start | Kind::Reset => What::MissingStart,
+        Kind::Start => What::MissingStart,
         Kind::End => What::MissingEnd,
+        Kind::Reset => What::MissingReset,
     }
 }
 
@@ -55,9 +84,9 @@ pub(crate) fn extra(kind: Kind) -> What
     ensures { result ≡ extra kind }
 {
     match kind {
-        // It isn't asked of a reset.
-        Kind::Start | Kind::Reset => What::ExtraStart,
+        Kind::Start => What::ExtraStart,
         Kind::End => What::ExtraEnd,
+        Kind::Reset => What::ExtraReset,
     }
 }
 
@@ -66,7 +95,7 @@ pub(crate) fn early(kind: Kind) -> What
     ensures { result ≡ early kind }
 {
     match kind {
-        // It isn't asked of a reset.
+        // It isn't asked of a reset, which is never early.
         Kind::Start | Kind::Reset => What::EarlyStart,
         Kind::End => What::EarlyEnd,
     }

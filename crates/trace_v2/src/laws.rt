@@ -1,5 +1,6 @@
 //! Laws of the definitions.
 
+ghost use Rattle.trace_v2.specs.Migration.{MigrationKeeps};
 ghost use Rattle.trace_v2.specs.OldDecoding.{OneOldPlace, OneOldReading, OneOldSalvage};
 
 /// No bytes are the old encoding of two traces.
@@ -15,4 +16,9 @@ pub fn one_old_place()
 /// No bytes are salvaged by version 1 in two ways, unless memory runs out.
 pub fn one_old_salvage()
     ensures { OneOldSalvage }
+{}
+
+/// What is read of a migrated trace is what the old bytes encode.
+pub fn migration_keeps()
+    ensures { MigrationKeeps }
 {}

@@ -1,5 +1,5 @@
 -- The texts of a design, a map and a script: no failed write among the answers of their steps, and the same where no read failed.
-use Rattle.std.proofs.Common.{◌≡◌, ℕ, List, Option, Ok, inl, inr, map}
+use Rattle.std.proofs.Common.{ℕ, List, Option, Ok, inl, inr, map}
 use Rattle.vlog_parse.specs.vlog_lex.declared.token.Token.{Token}
 use Rattle.vlog_parse.specs.vlog_lex.Reading.{HasTokens}
 use Rattle.vlog_tree.specs.Tree.{FileOf}
@@ -9,17 +9,17 @@ use Rattle.env_script.specs.chan_map.declared.text.MapText.{MapText}
 use Rattle.env_script.specs.chan_map.declared.pins.Map.{Map}
 use Rattle.env_script.specs.chan_map.Text.{ReadsMap}
 use Rattle.env_script.specs.chan_map.Bound.{BindsMap}
-use Rattle.report_text.specs.vidi_io.Shelf.{Files}
-use Rattle.report_text.specs.declared.reason.Word.TheVariants as words
-use Rattle.report_text.specs.declared.reason.Reason.TheVariants.{Word, Deep, Item, Loop}
+use Rattle.vidi_answer.specs.vidi_io.Shelf.{Files}
+use Rattle.vidi_answer.specs.report_text.declared.reason.Word.TheVariants as words
+use Rattle.vidi_answer.specs.report_text.declared.reason.Reason.TheVariants.{Word, Deep, Item, Loop}
 use Rattle.vidi_bench.specs.Benches.{IsNoScript, RefusedTexts, ReadTexts}
 use Rattle.vidi_bench.specs.Design.{text_limit, line_of, IsNoWord, IsNoTree, IsNoText, IsRefusedFile, IsAccepted, IsLooped, Spells}
 use Rattle.vidi_bench.specs.Design.{Building, Spelling}
 use Rattle.vidi_bench.specs.Devices.{Binding, IsNoMap, IsUnbound, Mapping, Wiring}
-use Rattle.vidi_bench.specs.Reading.{Reading}
-use Rattle.vidi_bench.specs.Steps.{Ending, Step}
-use Rattle.vidi_bench.proofs.Chain.{Implies}
-use Rattle.vidi_bench.proofs.Quiet.{Mute, mute-step, mute-reading, mute-refusal, quiet-reading}
+use Rattle.vidi_answer.specs.Reading.{Reading}
+use Rattle.vidi_answer.specs.Steps.{Ending, Step}
+use Rattle.vidi_answer.proofs.Chain.{Implies}
+use Rattle.vidi_answer.proofs.Quiet.{Mute, mute-step, mute-reading, mute-refusal, quiet-reading}
 
 -- ---- no failed write: the text of a design, and the design
 mute-no_word : (text : List ℕ) → Mute (IsNoWord text)

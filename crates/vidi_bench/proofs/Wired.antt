@@ -6,12 +6,12 @@ use Rattle.env_script.specs.chan_map.declared.text.MapText.{MapText}
 use Rattle.env_script.specs.chan_map.declared.pins.Map.{Map}
 use Rattle.env_script.specs.chan_map.Text.{ReadsMap}
 use Rattle.env_script.specs.chan_map.Bound.{BindsMap}
-use Rattle.vidi_bench.specs.declared.answer.Ended.{Ended}
+use Rattle.vidi_answer.specs.declared.answer.Ended.{Ended}
 use Rattle.vidi_bench.specs.declared.device.Device.{Device}
 use Rattle.vidi_bench.specs.Design.{IsAccepted, Spells}
 use Rattle.vidi_bench.specs.Devices.{IsDevice, IsRunnable, Wiring}
-use Rattle.vidi_bench.specs.Steps.{Ending, Never}
-use Rattle.vidi_bench.proofs.Chain.{Implies}
+use Rattle.vidi_answer.specs.Steps.{Ending, Never}
+use Rattle.vidi_answer.proofs.Chain.{Implies}
 
 -- what the tree and the lines of a map say
 pub device-said : (design map : List ℕ) (file : FileOf ℕ) (text : MapText) (r : Result Device Ended) → Spells design file

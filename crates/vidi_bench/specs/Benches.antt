@@ -1,19 +1,19 @@
 -- What the texts of a design, a map and a script say together, or the first reason for which they are refused.
 use Rattle.std.specs.Prelude.{ℕ, ◌≤◌, List, Option, Ok, Err, length}
-use Rattle.report_text.specs.vidi_io.Shelf.{Files}
+use Rattle.vidi_answer.specs.vidi_io.Shelf.{Files}
 use Rattle.env_script.specs.chan_map.declared.pins.Map.{Map}
 use Rattle.env_script.specs.declared.error.ScriptError.{ScriptError}
 use Rattle.env_script.specs.Reasons.{read_lines}
 use Rattle.env_script.specs.Fits.{FitsChannels}
 use Rattle.env_script.specs.Reads.{ReadsScript}
-use Rattle.report_text.specs.declared.reason.Word.TheVariants as words
+use Rattle.vidi_answer.specs.report_text.declared.reason.Word.TheVariants as words
 use Rattle.vidi_bench.specs.declared.bench.Bench.{Bench}
 use Rattle.vidi_bench.specs.declared.bench.Texts.{Texts}
 use Rattle.vidi_bench.specs.Reasons.{script_reason}
-use Rattle.vidi_bench.specs.Steps.{Ending, IsRefusalFor}
+use Rattle.vidi_answer.specs.Steps.{Ending, IsRefusalFor}
 use Rattle.vidi_bench.specs.Design.{text_limit}
 use Rattle.vidi_bench.specs.Devices.{IsDevice, IsRunnable, Wiring}
-use Rattle.vidi_bench.specs.Reading.{Reading}
+use Rattle.vidi_answer.specs.Reading.{Reading}
 
 -- S1 to S3
 abbrev pub IsNoScript : List ℕ → Map → Ending

@@ -1,5 +1,5 @@
 -- What a design's text says, or the first reason for which it is refused (this project's profile).
-use Rattle.std.specs.Prelude.{◌≡◌, ℕ, ◌⊎◌, List, Option, None, Some, map, slice_get}
+use Rattle.std.specs.Prelude.{ℕ, ◌⊎◌, List, Option, None, Some, map, slice_get}
 use Rattle.vlog_parse.specs.vlog_lex.declared.token.Token.{Token}
 use Rattle.vlog_parse.specs.vlog_lex.Reading.{HasTokens, IsStuckOn}
 use Rattle.vlog_tree.specs.Tree.{FileOf}
@@ -13,10 +13,10 @@ use Rattle.net_design.specs.declared.design.Driver.{Driver}
 use Rattle.vlog_design.specs.net_order.Order.{IsOrder, IsLoop}
 use Rattle.vlog_design.specs.Design.{IsDesignOf}
 use Rattle.vlog_design.specs.Reasons.{Clear, Refused}
-use Rattle.report_text.specs.declared.reason.Word.TheVariants as words
-use Rattle.report_text.specs.declared.reason.Reason.TheVariants as reasons
+use Rattle.vidi_answer.specs.report_text.declared.reason.Word.TheVariants as words
+use Rattle.vidi_answer.specs.report_text.declared.reason.Reason.TheVariants as reasons
 use Rattle.vidi_bench.specs.Reasons.{elab_reason}
-use Rattle.vidi_bench.specs.Steps.{Ending, IsRefusal, IsRefusalFor, Step}
+use Rattle.vidi_answer.specs.Steps.{Ending, IsRefusal, IsRefusalFor, Step}
 
 -- the longest design text, in bytes
 abbrev pub text_limit : ℕ

@@ -11,10 +11,10 @@ use Rattle.env_script.specs.chan_map.declared.pins.Map.{Map}
 use Rattle.env_script.specs.chan_map.Text.{ReadsMap}
 use Rattle.env_script.specs.chan_map.Bound.{BindsMap}
 use Rattle.env_script.specs.run_model.MapOf.{IsMapOf}
-use Rattle.report_text.specs.declared.reason.Word.TheVariants as words
+use Rattle.vidi_answer.specs.report_text.declared.reason.Word.TheVariants as words
 use Rattle.vidi_bench.specs.declared.device.Device.{Device}
 use Rattle.vidi_bench.specs.Reasons.{map_reason}
-use Rattle.vidi_bench.specs.Steps.{Ending, IsRefusalFor, Step}
+use Rattle.vidi_answer.specs.Steps.{Ending, IsRefusalFor, Step}
 use Rattle.vidi_bench.specs.Design.{Building, IsAccepted, Spelling, Spells}
 
 -- ---- the reasons M1 to M4 of a map

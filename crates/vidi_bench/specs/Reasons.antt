@@ -6,8 +6,8 @@ use Rattle.env_script.specs.chan_map.declared.error.MapError.{MapError}
 use Rattle.env_script.specs.chan_map.declared.error.MapError.TheVariants as maps
 use Rattle.env_script.specs.declared.error.ScriptError.{ScriptError}
 use Rattle.env_script.specs.declared.error.ScriptError.TheVariants as scripts
-use Rattle.report_text.specs.declared.reason.Reason.{Reason}
-use Rattle.report_text.specs.declared.reason.Reason.TheVariants as reasons
+use Rattle.vidi_answer.specs.report_text.declared.reason.Reason.{Reason}
+use Rattle.vidi_answer.specs.report_text.declared.reason.Reason.TheVariants as reasons
 
 -- E3 to E9 and E11 to E13
 abbrev pub elab_reason : ElabError → Option Reason

@@ -3,23 +3,21 @@
 ghost use Rattle.std.specs.Prelude.{◌≡◌, ◌≤◌, IfOk, IfErr, Ok, length};
 ghost use Rattle.env_script.specs.Reasons.{read_lines};
 ghost use Rattle.env_script.specs.Reads.{ReadsScript};
-ghost use Rattle.report_text.specs.vidi_io.Cause.{Rose};
-ghost use Rattle.report_text.specs.vidi_io.Shelf.{Later};
+ghost use Rattle.vidi_answer.specs.vidi_io.Cause.{Rose};
+ghost use Rattle.vidi_answer.specs.vidi_io.Shelf.{Later};
 ghost use Rattle.vidi_bench.specs.Benches.{AreWithin, IsBench, IsNoScript, IsPlayable, ReadTexts, RefusedTexts};
 ghost use Rattle.vidi_bench.specs.Design.{text_limit};
-ghost use Rattle.vidi_bench.specs.Ended.{EndsWith};
-ghost use Rattle.vidi_bench.specs.Reading.{IsRead};
-ghost use Rattle.vidi_bench.specs.Steps.{Never};
+ghost use Rattle.vidi_answer.specs.Ended.{EndsWith};
+ghost use Rattle.vidi_answer.specs.Reading.{IsRead};
+ghost use Rattle.vidi_answer.specs.Steps.{Never};
 
-use crate::answer::Ended;
 use crate::device::{Device, device_of};
-use crate::read::{TEXT_LIMIT, read_file};
 use crate::refusal::refused_for;
-use crate::status::Word;
 use env_script::chan_map::Map;
 use env_script::{Script, read_script};
-use report_text::vidi_io::Shelf;
 use std::alloc::Global;
+use vidi_answer::vidi_io::Shelf;
+use vidi_answer::{Ended, TEXT_LIMIT, Word, read_file};
 use vlog_parse::vidi_bits::Bytes;
 
 /// The texts of a design, a map and a script.

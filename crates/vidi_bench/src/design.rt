@@ -7,13 +7,12 @@ ghost use Rattle.net_design.specs.Lawful.{IsLawful, counts};
 ghost use Rattle.vlog_design.specs.net_order.Order.{IsOrder};
 ghost use Rattle.vidi_bench.specs.Design as spec;
 ghost use Rattle.vidi_bench.specs.Design.{text_limit, IsAccepted, IsFile, IsLooped, IsNoText, IsNoTree, IsRefusedFile, Spells};
-ghost use Rattle.vidi_bench.specs.Ended.{EndsWith};
+ghost use Rattle.vidi_answer.specs.Ended.{EndsWith};
 
-use crate::answer::{Ended, refused};
 use crate::refusal::refused_for;
-use crate::status::{Reason, Word};
 use net_design::Design;
 use std::alloc::Global;
+use vidi_answer::{Ended, Reason, Word, refused};
 use vlog_design::elaborate;
 use vlog_design::net_order::{Order, OrderError, order};
 use vlog_parse::vidi_bits::{Items, Memory};

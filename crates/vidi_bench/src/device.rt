@@ -7,17 +7,16 @@ ghost use Rattle.env_script.specs.chan_map.Text.{ReadsMap};
 ghost use Rattle.env_script.specs.chan_map.Bound.{BindsMap};
 ghost use Rattle.vidi_bench.specs.Design.{text_limit, Building, IsAccepted};
 ghost use Rattle.vidi_bench.specs.Devices.{Binding, IsDevice, IsNoMap, IsRunnable, IsUnbound, Wiring};
-ghost use Rattle.vidi_bench.specs.Ended.{EndsWith};
-ghost use Rattle.vidi_bench.specs.Steps.{Never};
+ghost use Rattle.vidi_answer.specs.Ended.{EndsWith};
+ghost use Rattle.vidi_answer.specs.Steps.{Never};
 
-use crate::answer::Ended;
 use crate::design::{design_of, file_of, order_of};
 use crate::refusal::refused_for;
-use crate::status::Word;
 use env_script::chan_map::{Map, MapText, bind_map, lawful_ports_have_widths, read_map};
 use env_script::run_model::bound_is_map_of;
 use net_design::Design;
 use std::alloc::Global;
+use vidi_answer::{Ended, Word};
 use vlog_design::net_order::Order;
 use vlog_tree::File;
 

@@ -1,16 +1,15 @@
 //! What the crates below find wrong with a file, and the answer that refuses it.
 
 ghost use Rattle.std.specs.Prelude.{◌≡◌, Option, IfOk};
-ghost use Rattle.report_text.specs.declared.reason.Reason.{Reason as OneReason};
-ghost use Rattle.vidi_bench.specs.AnswerText.{text_of};
+ghost use Rattle.vidi_answer.specs.report_text.declared.reason.Reason.{Reason as OneReason};
+ghost use Rattle.vidi_answer.specs.AnswerText.{text_of};
 ghost use Rattle.vidi_bench.specs.Reasons.{elab_reason, map_reason, script_reason};
-ghost use Rattle.vidi_bench.specs.Steps.{IsRefusalFor};
+ghost use Rattle.vidi_answer.specs.Steps.{IsRefusalFor};
 
-use crate::answer::{Answer, refused};
-use crate::status::{Reason, Word};
 use env_script::ScriptError;
 use env_script::chan_map::MapError;
 use std::alloc::Global;
+use vidi_answer::{Answer, Reason, Word, refused};
 use vlog_design::vlog_elab::ElabError;
 use vlog_parse::vidi_bits::Memory;
 

@@ -28,8 +28,8 @@ returns-then-is_lost g c =
     (g.met.P.Page.onward _ _ _ _ _ c.loop-number.invariant.text
     (c.is_lost.ensures c.if-is_lost.true (flat_map F (enumerate_from (0 + length (take i packets)) (drop i packets)))))
 
-pub count_ends-requires : goal.count_ends-requires
-count_ends-requires g c = λ k l.
+pub count_packet-requires : goal.count_packet-requires
+count_packet-requires g c = λ k l.
     let long : length c.as_slice-packet-items.result.now ≡ length c.args.trace.now.packets = ap length c.as_slice-packet-items.ensures in
     let small = clock-small c.args.trace.now.packets (length c.args.trace.now.channels) c.loop-number.number c.loop-number.completed
     (omega (arith, c.loop-number-test.true, long)) c.loop-number.invariant.counts k l in
@@ -53,8 +53,8 @@ loop-number-preserved g c =
     record {
       text = subst (λ (x : List ℕ). g.P.Page.went c.args.page.now c.print_packet.new.page x) (more_on F packets p packet within is)
           (g.met.P.Page.onward _ _ _ _ _ c.loop-number.invariant.text step);
-      counts = clock-on packets n p packet c.loop-number.completed c.count_ends.new.completed
+      counts = clock-on packets n p packet c.loop-number.completed c.count_packet.new.completed
           (slice_get_read packets (length packets) p packet refl within is)
-          c.loop-number.invariant.counts c.count_ends.auto.completed c.count_ends.ensures;
+          c.loop-number.invariant.counts c.count_packet.auto.completed c.count_packet.ensures;
       room = subst (λ (r : ℕ). 7 + 21 * n ≤ r) (sym c.put_clock.ensures.room) c.loop-number.invariant.room;
     }

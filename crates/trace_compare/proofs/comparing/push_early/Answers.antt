@@ -10,5 +10,5 @@ pub returns : goal.returns
 returns c =
     let marks = early_at c.args.covering.now c.args.in_a.now c.args.in_b.now in
     subst (λ (fs : List Finding). OnOk c.push_if.result (c.push_if.new.report ≡ c.args.report.now ++ fs))
-    (found-counted marks c.early_events-tally.result c.args.channel (early c.args.kind) c.early.result c.early_events-tally.ensures
-    c.early.ensures) c.push_if.ensures
+    (found-counted marks c.early_events-tally.result c.args.site.epoch c.args.site.channel (early c.args.kind) c.early.result c.finding-finding.result
+    c.early_events-tally.ensures c.early.ensures c.finding-finding.ensures) c.push_if.ensures

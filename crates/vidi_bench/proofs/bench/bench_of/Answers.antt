@@ -3,9 +3,9 @@ use Rattle.env_script.specs.Reads.{ReadsScript}
 use Rattle.env_script.specs.Reasons.{read_lines}
 use Rattle.vidi_bench.specs.Benches.{IsNoScript, RefusedTexts}
 use Rattle.vidi_bench.specs.Devices.{IsDevice, Wiring}
-use Rattle.vidi_bench.specs.Ended.{EndsWith}
-use Rattle.vidi_bench.specs.Steps.{Never}
-use Rattle.vidi_bench.proofs.Chain.{passed-as}
+use Rattle.vidi_answer.specs.Ended.{EndsWith}
+use Rattle.vidi_answer.specs.Steps.{Never}
+use Rattle.vidi_answer.proofs.Chain.{passed-as}
 use Rattle.vidi_bench.proofs.Wired.{never-wired, wired-then}
 use Rattle.vidi_bench.proofs.bench.bench_of.Goals as goal
 

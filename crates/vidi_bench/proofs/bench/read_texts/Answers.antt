@@ -1,11 +1,11 @@
 use Rattle.std.proofs.Common.{ℕ, List, inl, inr, ◌∙◌}
-use Rattle.report_text.specs.vidi_io.Cause.{Rose}
-use Rattle.report_text.specs.declared.reason.Word.TheVariants as words
+use Rattle.vidi_answer.specs.vidi_io.Cause.{Rose}
+use Rattle.vidi_answer.specs.report_text.declared.reason.Word.TheVariants as words
 use Rattle.vidi_bench.specs.Benches.{ReadTexts}
 use Rattle.vidi_bench.specs.Design.{text_limit}
-use Rattle.vidi_bench.specs.Reading.{IsUnread}
-use Rattle.vidi_bench.specs.Steps.{Never}
-use Rattle.vidi_bench.proofs.Chain.{passed-as, read-as, rose-since, unread-as}
+use Rattle.vidi_answer.specs.Reading.{IsUnread}
+use Rattle.vidi_answer.specs.Steps.{Never}
+use Rattle.vidi_answer.proofs.Chain.{passed-as, read-as, rose-since, unread-as}
 use Rattle.vidi_bench.proofs.bench.read_texts.Goals as goal
 
 pub returns-in_err-map-clause-refused : goal.returns-in_err-map-clause-refused

@@ -1,6 +1,6 @@
 use Rattle.std.proofs.Common.{inr}
 use Rattle.vidi_bench.specs.Design.{IsNoText, IsNoTree}
-use Rattle.vidi_bench.proofs.Chain.{all-as}
+use Rattle.vidi_answer.proofs.Chain.{all-as}
 use Rattle.vidi_bench.proofs.design.file_of.Goals as goal
 
 pub returns-in-Ok-clause-refused : goal.returns-in-Ok-clause-refused

@@ -2,9 +2,9 @@ use Rattle.std.proofs.Common.{inl, inr}
 use Rattle.vlog_tree.specs.Plain.{plain}
 use Rattle.vidi_bench.specs.Design.{Building, IsAccepted, IsLooped, IsRefusedFile}
 use Rattle.vidi_bench.specs.Devices.{Binding, IsUnbound}
-use Rattle.vidi_bench.specs.Ended.{EndsWith}
-use Rattle.vidi_bench.specs.Steps.{Never}
-use Rattle.vidi_bench.proofs.Chain.{passed-as}
+use Rattle.vidi_answer.specs.Ended.{EndsWith}
+use Rattle.vidi_answer.specs.Steps.{Never}
+use Rattle.vidi_answer.proofs.Chain.{passed-as}
 use Rattle.vidi_bench.proofs.device.built.Goals as goal
 
 pub returns-in_err-design-clause-refused : goal.returns-in_err-design-clause-refused

@@ -2,8 +2,8 @@ use Rattle.std.proofs.Common.{inl, inr}
 use Rattle.vlog_tree.specs.Plain.{plain}
 use Rattle.vidi_bench.specs.Design.{Building, IsNoText}
 use Rattle.vidi_bench.specs.Devices.{Binding, IsNoMap, Wiring}
-use Rattle.vidi_bench.specs.Steps.{Never}
-use Rattle.vidi_bench.proofs.Chain.{all-as, passed-as}
+use Rattle.vidi_answer.specs.Steps.{Never}
+use Rattle.vidi_answer.proofs.Chain.{all-as, passed-as}
 use Rattle.vidi_bench.proofs.Wired.{device-said}
 use Rattle.vidi_bench.proofs.device.device_of.Goals as goal
 
