@@ -92,7 +92,7 @@ def check_contracts(checker):
 
 def check_programs(checker):
     """What the three programs say of their words."""
-    for program, count in (("vidi-tools", len(commands.TOOLS)), ("gate", 15), ("make", 8)):
+    for program, count in (("vidi-tools", len(commands.TOOLS)), ("gate", 15), ("make", 9)):
         said, status = checker.run(program, "--help")
         checker.case(f"{program} --help", (len(re.findall(rf"^  {program} \S+ ", said, re.M)), status), (count, 0))
         checker.case(f"{program} without words", checker.run(program), (said, 1))

@@ -164,8 +164,8 @@ def check_hex(checker):
     checker.refused("trace of no trace", ["trace", "no.hex", "no.trace"],
                     "trace: no.hex: no trace: it doesn't begin with VIDITRC2", "no.trace")
     checker.write("old.hex", "5649444954524331" + PASS_HEADER[16:] + "0000000000\n")
-    checker.refused("trace of an old trace", ["trace", "old.hex", "old.trace"],
-                    "trace: old.hex: old trace: it begins with VIDITRC1, of version 1", "old.trace")
+    checker.refused("trace of an old trace", ["trace", "old.hex", "older.trace"],
+                    "trace: old.hex: old trace: it begins with VIDITRC1, of version 1", "older.trace")
     checker.write("reset.hex", PASS_HEADER + "020003" + "010000010105" + "0000000002\n")
     checker.case("trace of a text with a reset", checker.run("trace", "reset.hex", "reset.trace"), ("", 0))
     checker.case("the trace of a text with a reset", check_replays.bytes_of(checker, "reset.trace").hex(),

@@ -2,12 +2,13 @@
 
     gate mutate [--count N] [--seed S] [--only COMMAND] [--keep FOLDER]
 
-N inputs a command (10,000 where nothing is said) for check, run, record, replay, dump, compare, salvage and wrap. Each is made of the files of an
-example or of a design of `make random`: in one or more of the files that the command reads, bytes are changed, cut or doubled and lines or
-words exchanged, one to four times. Wrong is: an end by a signal, more than a second of processor time three times (or 20 seconds by the clock), anything on
-the standard error, an exit number other than 0, 4, 5, 6 and 7 (the words are always a command, and its files are there), lines that aren't those
-of the exit number, a file beside the one to be written, that one after a refusal, and an OUT that `vidi dump` (of `wrap`: `vidi check`, with both
-tops) doesn't take. The same seed tries the same inputs. It says how often each command ended how.
+N inputs a command (10,000 where nothing is said) for check, run, record, replay, dump, compare, salvage and wrap. Each is made of the files of
+an example or of a design of `make random`: in one or more of the files that the command reads, bytes are changed, cut or doubled and lines or
+words exchanged, one to four times; to one trace in five a reset is added before. Wrong is: an end by a signal, more than a second of processor
+time three times (or 20 seconds by the clock), anything on the standard error, an exit number other than 0, 4, 5, 6 and 7 (the words are always a
+command, and its files are there), lines that aren't those of the exit number, a file beside the one to be written, that one after a refusal, and
+an OUT that `vidi dump` (of `wrap`: `vidi check`, with both tops) doesn't take. The same seed tries the same inputs. It says how often each
+command ended how.
 """
 import argparse
 import collections
@@ -22,6 +23,7 @@ import tempfile
 
 from make_kinds import random_design
 from vidi_tools import tool_kit
+from vidi_tools import trace_kit
 from vidi_tools.tool_kit import Problem
 
 COMMANDS = {
@@ -106,6 +108,16 @@ def changed(draw, content):
     return content[:found.start()] + number + content[found.end():]
 
 
+def with_reset(draw, content):
+    """The bytes of a trace with a reset put in where nothing is in flight."""
+    trace, flying, places = trace_kit.read(content), set(), [0]
+    for number, packet in enumerate(trace.packets, 1):
+        flying = (flying | set(packet.starts)) - set(packet.ends)
+        places += [number] * (not flying)
+    trace.packets.insert(draw.choice(places), trace_kit.Packet({}, [], draw.choice([0, 1, 300, trace_kit.MOST_GAP]), True))
+    return trace_kit.encoded(trace.channels, trace.packets)
+
+
 class Base:
     """The files of a design from which inputs are made."""
 
@@ -141,6 +153,9 @@ class Tried:
         self.vidi, self.command = vidi, command
         self.reads, self.out = COMMANDS[command]
         self.files = {name: base.files[name] for name in self.reads}
+        for name in sorted({"trace", "other"} & set(self.reads)):
+            if draw.random() < 0.2:
+                self.files[name] = with_reset(draw, self.files[name])
         for _ in range(draw.choice([1, 1, 1, 1, 2, 2, 3, 4])):
             name = draw.choice(self.reads)
             self.files[name] = changed(draw, self.files[name])

@@ -1,2 +1,2 @@
-mod Growing
+mod Ending
 mod SendLaws

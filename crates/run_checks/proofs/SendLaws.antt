@@ -6,7 +6,8 @@ use Rattle.run_reference.specs.trace_model.declared.channel.Channel.{Channel}
 use Rattle.run_reference.specs.trace_model.declared.channel.Dir.TheVariants.{Inward, Outward}
 use Rattle.run_reference.specs.trace_model.declared.row.Offers.{Offers}
 use Rattle.run_reference.specs.trace_model.Row.{AreOffers}
-use Rattle.sample_designs.specs.Stage.{stage_channels}
+use Rattle.run_stage.specs.Given.{FitsGates}
+use Rattle.sample_designs.specs.Stage.{flick_channels, stage_channels}
 use Rattle.run_checks.specs.Given.{IsSend}
 
 pub offers_fit : (valids readies content : ℕ) → valids < 4 → readies < 4 → content < 256
@@ -41,5 +42,16 @@ send_down = record { fit = offers_fit 0 2 0 (omega arith) (omega arith) (omega a
 pub offers_of : (os : List Offers) → All IsSend os → All (AreOffers stage_channels) os
 offers_of os sends = λ k d l. (sends k d l).fit
 
-pub zeros_of : (os : List Offers) → All IsSend os → All (AreZeroWhileDown stage_channels) os
-zeros_of os sends = λ k d l. (sends k d l).zeros
+pub gated : (offers : Offers) (gates : ℕ) → IsSend offers → gates < 4 → FitsGates stage_channels (record { offers = offers; gates = gates })
+gated offers gates send l = record { offers = send.fit; zeros = send.zeros; gates = l }
+
+-- `flick` has no inward channel
+flick_zero : (offers : Offers) → AreZeroWhileDown flick_channels offers
+flick_zero offers zero x at way down =
+    let same = same_Some (record { dir = Outward; name = 98 ∷ []; widths = [] }) x at in
+    let e : Outward ≡ Inward = ap (λ (y : Channel). y.dir) same ∙ way in
+    absurd (cc)
+flick_zero offers (suc c) x at way down = absurd (cc)
+
+pub idle_fits : (offers : Offers) → AreOffers flick_channels offers → FitsGates flick_channels (record { offers = offers; gates = 0 })
+idle_fits offers fit = record { offers = fit; zeros = flick_zero offers; gates = omega arith }

@@ -22,7 +22,7 @@ use vidi_recorder::{RecordError, record_run};
 const TWO_SENDS: &[u8; 35] = b"cycles 6\na wait 1\na send 5\na send 6";
 
 /// A store that drains whole after each row.
-const ALL_DRAINS: &[u8; 11] = b"capacity 18";
+const ALL_DRAINS: &[u8; 11] = b"capacity 28";
 
 /// Whether a content is offered on the first channel after a recording of six cycles whose push of this number fails.
 fn offers_after<S: Shell, E: Env>(

@@ -1,12 +1,12 @@
 //! Tests of what no command prints: rows of runs and of plain runs under scripts with all their masks, shells that are reset, and where an
-//! environment stands after a recording whose push failed. `play_shell` is a caller of any shell, which shows that the contract of `Shell`
-//! says enough.
+//! environment stands after a recording whose push failed. `play_shell` plays any shell under what is given in each cycle, which shows that
+//! the contract of `Shell` says enough.
 #![tactic(auto)]
 
 mod play;
 mod sends;
 
-pub use play::play_shell;
+pub use play::{Played, play_shell};
 pub use sends::is_two_sends;
 
 #[cfg(test)]

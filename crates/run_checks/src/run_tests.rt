@@ -5,16 +5,18 @@ ghost use Rattle.std.specs.Prelude.{◌≡◌, ◌<◌, ◌^◌, All, IfOk, leng
 ghost use Rattle.run_reference.specs.trace_model.Row.{AreOffers};
 ghost use Rattle.run_reference.specs.run_model.Building.{PortsAreNets};
 ghost use Rattle.run_reference.specs.run_model.MapOf.{IsMapOf};
+ghost use Rattle.run_stage.specs.Given.{FitsGates};
 ghost use Rattle.sample_designs.specs.Stage.{flick_channels, stage_channels};
 
-use crate::given::two_sends;
-use crate::play::play_shell;
+use crate::given::{two_sends, two_sends_behind};
+use crate::play::{Played, play_shell};
 use crate::sends::is_two_sends;
 use bench_run::chan_monitor::{Machines, Shell};
 use run_reference::chan_map::Map;
 use run_reference::run_rows;
 use run_reference::trace_model::{Channels, Offers, Row, Rows};
 use run_reference::vidi_bits::{Items, Memory, Numbers};
+use run_stage::{Ending, Gated};
 use sample_designs::net_sim::Sim;
 use sample_designs::{
     Sample, Stage, flick_channels, is_row, sample_stage, stage_channels, two_channel_stage,
@@ -24,8 +26,8 @@ use std::alloc::Global;
 /// All gates are up.
 const OPEN: [u128; 6] = [3, 3, 3, 3, 3, 3];
 
-/// The gates of a store of 18 bytes that never drains: a packet has 3 bytes without contents, and 7 are kept for each idle channel
-/// whose gate is up, 3 for one in flight. After row 0, 4 are used and `a` has its gate again; after row 1, 9 are, and after row 2, 12.
+/// The gates of a store of 28 bytes that never drains: a packet has 5 bytes without contents, and 11 are kept for each idle channel
+/// whose gate is up, 5 for one in flight. After row 0, 6 are used and `a` has its gate again; after row 1, 13 are, and after row 2, 18.
 const SHUT: [u128; 6] = [3, 3, 1, 0, 0, 0];
 
 /// The rows of a design's run under these offers and gates, by the definitions.
@@ -165,34 +167,34 @@ fn played<S: Shell>(
     shell: &mut S,
     map: &Map,
     gates: [u128; 6],
-) -> Result<Rows, Memory>
+) -> Result<Played, Memory>
     requires table { map.now.channels ≡ stage_channels }
     requires map { S.map shell.old ≡ map.now }
     requires gates { All (λ g. g < 4) gates }
     ensures map { S.map shell.new ≡ S.map shell.old }
 {
-    let offers = two_sends(alloc)?;
-    play_shell(alloc, shell, &map.channels, offers.as_slice(), &gates)
+    let given = two_sends_behind(alloc, &gates)?;
+    play_shell(alloc, shell, map, given.as_slice())
 }
 
-/// Whether a shell shows the rows with all gates up from a reset on.
+/// Whether a shell shows the rows with all gates up from a reset on, of which none is unstable.
 fn shows_all<S: Shell>(alloc: Global, shell: &mut S, map: &Map) -> Result<bool, Memory>
     requires table { map.now.channels ≡ stage_channels }
     requires map { S.map shell.old ≡ map.now }
     ensures map { S.map shell.new ≡ S.map shell.old }
 {
-    let rows = played(alloc, shell, map, OPEN)?;
-    Ok(is_two_sends(rows.as_slice()))
+    let played = played(alloc, shell, map, OPEN)?;
+    Ok(played.ending == Ending::Whole && is_two_sends(played.rows.as_slice()))
 }
 
-/// Whether a shell shows the rows with the gates of the store from a reset on.
+/// Whether a shell shows the rows with the gates of the store from a reset on, of which none is unstable.
 fn shows_one_gate<S: Shell>(alloc: Global, shell: &mut S, map: &Map) -> Result<bool, Memory>
     requires table { map.now.channels ≡ stage_channels }
     requires map { S.map shell.old ≡ map.now }
     ensures map { S.map shell.new ≡ S.map shell.old }
 {
-    let rows = played(alloc, shell, map, SHUT)?;
-    Ok(is_one_gate(rows.as_slice()))
+    let played = played(alloc, shell, map, SHUT)?;
+    Ok(played.ending == Ending::Whole && is_one_gate(played.rows.as_slice()))
 }
 
 /// Whether a shell shows the rows with all gates up, then those with the gates of the store, and then the first ones again.
@@ -228,4 +230,74 @@ fn pass_begins_again(alloc: Global) -> Option<bool> {
 #[test]
 fn a_reset_shell_begins_again(rt: HostRuntime) {
     assert!(rt; pass_begins_again(rt.alloc()) == Some(true));
+}
+
+/// Nothing is offered to `flick`, and its gate is down.
+#[tactic(auto, using(crate::proofs::SendLaws::idle_fits))]
+fn idle_behind(alloc: Global) -> Gated
+    ensures { FitsGates flick_channels result }
+{
+    Gated {
+        offers: idle(alloc),
+        gates: 0,
+    }
+}
+
+/// The same in three cycles.
+fn three_idle(alloc: Global) -> Result<Items<Gated>, Memory>
+    ensures long { IfOk result (λ given. length given ≡ 3) }
+    ensures fit { IfOk result (All (FitsGates flick_channels)) }
+{
+    let mut given = Items::new(alloc);
+    given.push(idle_behind(alloc))?;
+    given.push(idle_behind(alloc))?;
+    given.push(idle_behind(alloc))?;
+    Ok(given)
+}
+
+/// Behind the gate no transaction starts; row 2 is unstable, since its valid is down again.
+fn is_broken(played: &Played) -> bool {
+    let rows = played.rows.as_slice();
+    let ending = Ending::Unstable {
+        channel: 0,
+        cycle: 2,
+    };
+    played.ending == ending
+        && rows.len() == 2
+        && is_row(&rows[0], [0, 0, 0, 0, 0], &[])
+        && is_row(&rows[1], [0, 1, 0, 0, 0], &[])
+}
+
+/// Whether a shell's run ends so.
+fn breaks<S: Shell>(alloc: Global, shell: &mut S, map: &Map) -> Option<bool>
+    requires table { map.now.channels ≡ flick_channels }
+    requires map { S.map shell.old ≡ map.now }
+{
+    let given = three_idle(alloc).ok()?;
+    let played = play_shell(alloc, shell, map, given.as_slice()).ok()?;
+    Some(is_broken(&played))
+}
+
+/// The same of monitors round a design that runs.
+fn breaks_on(alloc: Global, sim: Sim, map: &Map) -> Option<bool>
+    requires nets { PortsAreNets sim.design }
+    requires mapped { IsMapOf sim.design map.now }
+    requires table { map.now.channels ≡ flick_channels }
+{
+    let Ok(mut shell) = Machines::new(alloc, sim, map) else {
+        return None;
+    };
+    breaks(alloc, &mut shell, map)
+}
+
+/// The same round `flick`.
+fn flick_breaks(alloc: Global) -> Option<bool> {
+    let channels = flick_channels(alloc).ok()?;
+    let Stage { sim, map } = sample_stage(alloc, Sample::Flick, &channels)?;
+    breaks_on(alloc, sim, &map)
+}
+
+#[test]
+fn a_shell_is_unstable_behind_its_gate(rt: HostRuntime) {
+    assert!(rt; flick_breaks(rt.alloc()) == Some(true));
 }

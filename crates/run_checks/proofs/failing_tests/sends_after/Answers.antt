@@ -1,4 +1,4 @@
-use Rattle.std.proofs.Common.{◌≡◌, ◌∙◌, false, sym, ap, subst, Option, Some, None, Result, Ok, Err, IfOk, List, []}
+use Rattle.std.proofs.Common.{◌≡◌, ◌∙◌, false, sym, ap, subst, Some, Result, Ok, Err, IfOk, List, []}
 use Rattle.std.specs.Result.{result_ok}
 use Rattle.bench_run.specs.trace_model.declared.channel.Channel.{Channel}
 use Rattle.bench_run.specs.env_script.declared.script.Script.{Script}
