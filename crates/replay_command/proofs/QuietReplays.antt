@@ -4,29 +4,29 @@ use Rattle.replay_run.specs.trace_model.declared.channel.Channel.{Channel}
 use Rattle.replay_run.specs.trace_model.declared.trace.Trace.{Trace}
 use Rattle.replay_run.specs.trace_model.Recording.{trace_of}
 use Rattle.replay_run.specs.chan_map.declared.pins.Map.{Map}
-use Rattle.trace_commands.specs.vidi_io.Shelf.{Files}
+use Rattle.vidi_bench.specs.vidi_io.Shelf.{Files}
 use Rattle.replay_run.specs.declared.outcome.ReplayOutcome.{ReplayOutcome}
 use Rattle.replay_run.specs.declared.outcome.ReplayOutcome.TheVariants as outcomes
-use Rattle.trace_commands.specs.report_text.declared.reason.Word.TheVariants as words
-use Rattle.trace_commands.specs.report_text.declared.reason.Reason.TheVariants.{OtherChannels}
-use Rattle.trace_commands.specs.vidi_bench.declared.status.Status.{Status}
-use Rattle.trace_commands.specs.vidi_bench.declared.status.Status.TheVariants.{WriteFault, Short, Unstable}
-use Rattle.trace_commands.specs.vidi_bench.Design.{text_limit}
-use Rattle.trace_commands.specs.vidi_bench.Reading.{Reading}
-use Rattle.replay_command.specs.Replays.{RefusedTrace, RefusedReplay, IsUnreplayed, IsReplaySaid, Replays}
+use Rattle.vidi_bench.specs.report_text.declared.reason.Word.TheVariants as words
+use Rattle.vidi_bench.specs.report_text.declared.reason.Reason.TheVariants.{OtherChannels}
+use Rattle.vidi_bench.specs.vidi_answer.declared.status.Status.{Status}
+use Rattle.vidi_bench.specs.vidi_answer.declared.status.Status.TheVariants.{WriteFault, Short, Unstable}
+use Rattle.vidi_bench.specs.Design.{text_limit}
+use Rattle.vidi_bench.specs.Reading.{Reading}
+use Rattle.replay_command.specs.Replays.{IsUnfit, RefusedTrace, RefusedReplay, IsUnreplayed, IsReplaySaid, Replays}
 use Rattle.replay_command.specs.Said.{replayed_line}
-use Rattle.trace_commands.specs.Traces.{trace_limit, HasOtherChannels}
-use Rattle.trace_commands.proofs.vidi_bench_lemmas.Quiet.{Mute, mute-reading, mute-refusal, quiet-reading}
-use Rattle.trace_commands.proofs.vidi_bench_lemmas.QuietTexts.{mute-wiring}
-use Rattle.trace_commands.proofs.QuietTraces.{mute-decoding, mute-verdict}
+use Rattle.vidi_bench.specs.Traces.{trace_limit}
+use Rattle.vidi_bench.proofs.Quiet.{Mute, mute-reading, mute-refusal, quiet-reading}
+use Rattle.vidi_bench.proofs.QuietTexts.{mute-wiring}
+use Rattle.vidi_bench.proofs.QuietDecoding.{mute-decoding, mute-reset, mute-verdict}
 
 -- ---- no failed write
-mute-other : (channels : List Channel) (t : Trace) → Mute (HasOtherChannels words.Trace channels t.channels)
-mute-other channels t x (at, same, other, s) = mute-refusal words.Trace (OtherChannels at) x s
+mute-unfit : (channels : List Channel) (t : Trace) → Mute (IsUnfit channels t)
+mute-unfit channels t x (inl (at, same, other, s)) = mute-refusal words.Trace (OtherChannels at) x s
+mute-unfit channels t x (inr (same, reset)) = mute-reset words.Trace t.packets x reset
 
 mute-trace : (trace : List ℕ) (m : Map) → Mute (RefusedTrace trace m)
-mute-trace trace m =
-    mute-decoding words.Trace trace (λ t. HasOtherChannels words.Trace m.channels t.channels) (mute-other m.channels)
+mute-trace trace m = mute-decoding words.Trace trace (IsUnfit m.channels) (mute-unfit m.channels)
 
 pub mute-refused_replay : (design map trace : List ℕ) → Mute (RefusedReplay design map trace)
 mute-refused_replay design map trace = mute-wiring design map (RefusedTrace trace) (mute-trace trace)

@@ -4,29 +4,31 @@ use Rattle.std.specs.Prelude.{IfOk, IfErr}
 use Rattle.replay_run.specs.trace_model.declared.trace.Trace.{Trace}
 use Rattle.replay_run.specs.trace_model.Recording.{trace_of}
 use Rattle.replay_run.specs.trace_code.Encoding.{Encodes, encode}
-use Rattle.trace_commands.specs.vidi_io.Shelf.{Files}
-use Rattle.trace_commands.specs.vidi_io.Writing.{IsKept}
-use Rattle.trace_commands.proofs.vidi_io_lemmas.Cut.{cut-knowing}
-use Rattle.trace_commands.specs.vidi_bench.declared.answer.Answer.{Answer}
-use Rattle.trace_commands.specs.vidi_bench.declared.answer.Ended.{Ended}
-use Rattle.trace_commands.specs.vidi_bench.declared.answer.Ended.TheVariants as ends
-use Rattle.trace_commands.specs.vidi_bench.declared.device.Device.{Device}
-use Rattle.trace_commands.specs.vidi_bench.declared.status.Status.{Status}
+use Rattle.replay_run.specs.trace_code.NoReset.{HasNoReset}
+use Rattle.vidi_bench.specs.vidi_io.Shelf.{Files}
+use Rattle.vidi_bench.specs.vidi_io.Writing.{IsKept}
+use Rattle.vidi_bench.proofs.vidi_io_lemmas.Cut.{cut-knowing}
+use Rattle.vidi_bench.specs.vidi_answer.declared.answer.Answer.{Answer}
+use Rattle.vidi_bench.specs.vidi_answer.declared.answer.Ended.{Ended}
+use Rattle.vidi_bench.specs.vidi_answer.declared.answer.Ended.TheVariants as ends
+use Rattle.vidi_bench.specs.declared.device.Device.{Device}
+use Rattle.vidi_bench.specs.vidi_answer.declared.status.Status.{Status}
 use Rattle.replay_command.specs.declared.replaying.Replayable.{Replayable}
-use Rattle.trace_commands.specs.vidi_bench.AnswerText.{text_of}
-use Rattle.trace_commands.specs.vidi_bench.Design.{text_limit}
-use Rattle.trace_commands.specs.vidi_bench.Devices.{IsDevice}
-use Rattle.trace_commands.specs.vidi_bench.Ended.{IsStopped, Owes}
-use Rattle.trace_commands.specs.vidi_bench.Reading.{IsRead}
+use Rattle.vidi_bench.specs.AnswerText.{text_of}
+use Rattle.vidi_bench.specs.Design.{text_limit}
+use Rattle.vidi_bench.specs.Devices.{IsDevice}
+use Rattle.vidi_bench.specs.Ended.{IsStopped, Owes}
+use Rattle.vidi_bench.specs.Reading.{IsRead}
 use Rattle.replay_command.specs.Replays.{CutsReplay, IsReplayable, Replays, ReplaysTrace, StopsReplaying}
-use Rattle.trace_commands.specs.Traces.{trace_limit}
+use Rattle.vidi_bench.specs.Traces.{trace_limit}
 
 -- what the texts of three files say
 pub replayable-said : (design map trace : List ℕ) (files : Option Files) (d m b : List ℕ) (r : Result Replayable Ended)
     → IsRead text_limit design files d → IsRead text_limit map files m → IsRead trace_limit trace files b
     → IfOk r (λ p. IsDevice d m p.device) → IfOk r (λ p. Encodes p.trace b) → IfOk r (λ p. p.trace.channels ≡ p.device.map.channels)
+    → IfOk r (λ p. HasNoReset p.trace.packets)
     → IfOk r (λ p. IsReplayable design map trace files p.device p.trace)
-replayable-said design map trace files d m b (Ok p) first second third device encodes same = record {
+replayable-said design map trace files d m b (Ok p) first second third device encodes same none = record {
   design_text = d;
   map_text = m;
   trace_bytes = b;
@@ -36,8 +38,9 @@ replayable-said design map trace files d m b (Ok p) first second third device en
   device = device;
   encodes = encodes;
   same = same;
+  no_reset = none;
 }
-replayable-said design map trace files d m b (Err e) first second third device encodes same = tt
+replayable-said design map trace files d m b (Err e) first second third device encodes same none = tt
 
 -- the bytes of the trace are those that were read
 pub bytes-encode : (b : List ℕ) (r : Result Replayable Ended) → IfOk r (λ p. p.bytes ≡ b) → IfOk r (λ p. Encodes p.trace b)

@@ -1,32 +1,39 @@
 -- What `replay DESIGN MAP TRACE CYCLES OUT` owes: each step of it in its order, and what is left in OUT.
 use Rattle.std.specs.Prelude.{◌≡◌, ℕ, ◌⊎◌, Bool, List, Option}
-use Rattle.trace_commands.specs.vidi_io.Shelf.{Files}
-use Rattle.trace_commands.specs.vidi_io.Writing.{IsCutOff, IsKept, IsWritten}
+use Rattle.vidi_bench.specs.vidi_io.Shelf.{Files}
+use Rattle.vidi_bench.specs.vidi_io.Writing.{IsCutOff, IsKept, IsWritten}
+use Rattle.replay_run.specs.trace_model.declared.channel.Channel.{Channel}
 use Rattle.replay_run.specs.trace_model.declared.row.Row.{Row}
 use Rattle.replay_run.specs.trace_model.declared.trace.Trace.{Trace}
 use Rattle.replay_run.specs.trace_model.Recording.{trace_of}
 use Rattle.replay_run.specs.trace_code.Encoding.{Encodes, encode}
+use Rattle.replay_run.specs.trace_code.NoReset.{HasNoReset}
 use Rattle.replay_run.specs.chan_map.declared.pins.Map.{Map}
 use Rattle.replay_run.specs.declared.outcome.ReplayOutcome.{ReplayOutcome}
 use Rattle.replay_run.specs.declared.outcome.ReplayOutcome.TheVariants as outcomes
 use Rattle.replay_run.specs.Replaying.{EndsAs}
-use Rattle.trace_commands.specs.report_text.Short.{short_lines}
-use Rattle.trace_commands.specs.report_text.declared.reason.Word.TheVariants as words
-use Rattle.trace_commands.specs.vidi_bench.declared.device.Device.{Device}
-use Rattle.trace_commands.specs.vidi_bench.declared.status.Status.{Status}
-use Rattle.trace_commands.specs.vidi_bench.declared.status.Status.TheVariants.{Short, Unstable}
-use Rattle.trace_commands.specs.vidi_bench.Design.{text_limit}
-use Rattle.trace_commands.specs.vidi_bench.Devices.{IsDevice, Wiring}
-use Rattle.trace_commands.specs.vidi_bench.Reading.{IsRead, Reading}
+use Rattle.vidi_bench.specs.report_text.Short.{short_lines}
+use Rattle.vidi_bench.specs.report_text.declared.reason.Word.TheVariants as words
+use Rattle.vidi_bench.specs.declared.device.Device.{Device}
+use Rattle.vidi_bench.specs.vidi_answer.declared.status.Status.{Status}
+use Rattle.vidi_bench.specs.vidi_answer.declared.status.Status.TheVariants.{Short, Unstable}
+use Rattle.vidi_bench.specs.Design.{text_limit}
+use Rattle.vidi_bench.specs.Devices.{IsDevice, Wiring}
+use Rattle.vidi_bench.specs.Reading.{IsRead, Reading}
 use Rattle.replay_command.specs.Said.{replayed_line, unstable_line}
-use Rattle.trace_commands.specs.vidi_bench.Steps.{Ending, IsSaid}
-use Rattle.trace_commands.specs.Traces.{trace_limit, Decoding, HasOtherChannels, IsVerdict}
+use Rattle.vidi_bench.specs.Steps.{Ending, IsSaid}
+use Rattle.vidi_bench.specs.Traces.{trace_limit, Decoding, HasOtherChannels, HasReset, IsVerdict}
 
 -- ---- what ends the command before anything is replayed
 
--- the bytes encode no trace, or one of other channels than the map's
+-- the trace has other channels than these, or else a reset
+abbrev pub IsUnfit : List Channel → Trace → Ending
+IsUnfit channels t status text = HasOtherChannels words.Trace channels t.channels status text
+    ⊎ ((t.channels ≡ channels) × HasReset words.Trace t.packets status text)
+
+-- the bytes encode no trace, or one of other channels than the map's, or one with a reset
 abbrev pub RefusedTrace : List ℕ → Map → Ending
-RefusedTrace trace m = Decoding words.Trace trace (λ t. HasOtherChannels words.Trace m.channels t.channels)
+RefusedTrace trace m = Decoding words.Trace trace (IsUnfit m.channels)
 
 -- the first reason of three texts, in the order of the steps
 abbrev pub RefusedReplay : List ℕ → List ℕ → List ℕ → Ending
@@ -41,7 +48,7 @@ IsUnreplayed design map trace files ReadFailed =
 
 -- ---- what is replayed
 
--- the three files are read and accepted: they say this design with its map, and this trace of the map's channels
+-- the three files are read and accepted: they say this design with its map, and this trace of the map's channels without a reset
 pub record IsReplayable (design map trace : List ℕ) (files : Option Files) (v : Device) (t : Trace) : Type 0 where
   pub design_text : List ℕ
   pub map_text : List ℕ
@@ -52,6 +59,7 @@ pub record IsReplayable (design map trace : List ℕ) (files : Option Files) (v 
   pub device : IsDevice design_text map_text v
   pub encodes : Encodes t trace_bytes
   pub same : t.channels ≡ v.map.channels
+  pub no_reset : HasNoReset t.packets
 
 -- what is said of a replay of at most n cycles that ends so, with the trace u
 abbrev pub IsReplaySaid : Trace → Trace → ℕ → ReplayOutcome → Ending

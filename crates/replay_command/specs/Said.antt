@@ -1,7 +1,7 @@
 -- *Said*: what `replay` prints (this project's profile). Every line ends with a newline, and numbers are decimal.
 use Rattle.std.specs.Prelude.{ℕ, List, ◌++◌, codes, decimal}
-use Rattle.trace_commands.specs.report_text.Text.{newline}
-pub use Rattle.run_commands.specs.Said.{unstable_line}
+use Rattle.vidi_bench.specs.report_text.Text.{newline}
+pub use Rattle.vidi_bench.specs.Said.{unstable_line}
 
 -- `replayed N cycles, no divergence`
 abbrev pub replayed_line : ℕ → List ℕ

@@ -5,42 +5,42 @@ ghost use Rattle.replay_run.specs.trace_model.declared.row.Row.{Row as OneRow};
 ghost use Rattle.replay_run.specs.trace_model.declared.trace.Trace.{Trace as OneTrace};
 ghost use Rattle.replay_run.specs.trace_model.Recording.{trace_of};
 ghost use Rattle.replay_run.specs.trace_code.Encoding.{Encodes, HasEncoding};
+ghost use Rattle.replay_run.specs.trace_code.NoReset.{HasNoReset};
 ghost use Rattle.net_design.specs.Lawful.{IsLawful};
-ghost use Rattle.run_commands.specs.net_order.Order.{IsOrder};
+ghost use Rattle.net_sim.specs.net_order.Order.{IsOrder};
 ghost use Rattle.replay_run.specs.run_model.MapOf.{IsMapOf};
 ghost use Rattle.replay_run.specs.Replaying.{EndsAs};
 ghost use Rattle.replay_run.specs.trace_model.declared.packet.TheConstants.{MOST_CYCLES};
-ghost use Rattle.trace_commands.specs.vidi_io.Cause.{Rose};
-ghost use Rattle.trace_commands.specs.vidi_io.Shelf.{HasStarted, Later};
-ghost use Rattle.trace_commands.specs.vidi_io.Writing.{IsKept};
-ghost use Rattle.trace_commands.specs.vidi_bench.AnswerText.{text_of};
-ghost use Rattle.trace_commands.specs.vidi_bench.Design.{text_limit};
-ghost use Rattle.trace_commands.specs.vidi_bench.Devices.{IsDevice, IsRunnable};
-ghost use Rattle.trace_commands.specs.vidi_bench.Ended.{EndsWith, IsStopped, Owes};
+ghost use Rattle.vidi_bench.specs.vidi_io.Cause.{Rose};
+ghost use Rattle.vidi_bench.specs.vidi_io.Shelf.{HasStarted, Later};
+ghost use Rattle.vidi_bench.specs.vidi_io.Writing.{IsKept};
+ghost use Rattle.vidi_bench.specs.AnswerText.{text_of};
+ghost use Rattle.vidi_bench.specs.Design.{text_limit};
+ghost use Rattle.vidi_bench.specs.Devices.{IsDevice, IsRunnable};
+ghost use Rattle.vidi_bench.specs.Ended.{EndsWith, IsStopped, Owes};
 ghost use Rattle.replay_command.specs.Replays.{CutsReplay, IsReplayable, IsReplaySaid, IsTheReplay, IsUnreplayed};
 ghost use Rattle.replay_command.specs.Replays.{RefusedReplay, RefusedTrace, Replays, ReplaysTrace, StopsReplaying};
 ghost use Rattle.replay_command.specs.Said as said;
-ghost use Rattle.trace_commands.specs.vidi_bench.Steps.{IsSaid};
-ghost use Rattle.trace_commands.specs.Traces.{IsVerdict};
+ghost use Rattle.vidi_bench.specs.Steps.{IsSaid};
+ghost use Rattle.vidi_bench.specs.Traces.{IsVerdict};
 
 use net_design::{Block, Design};
+use net_sim::Sim;
+use net_sim::net_order::Order;
 use replay_run::chan_map::Map;
 use replay_run::chan_replayer::ReplayMachines;
 use replay_run::trace_code::{CodeError, TRACE_LIMIT, decode};
 use replay_run::trace_model::{Trace, same_channels};
 use replay_run::vidi_bits::{Bytes, Memory};
 use replay_run::{ReplayOutcome, Replayed};
-use run_commands::net_order::Order;
-use run_commands::net_sim::Sim;
-use run_commands::unstable;
 use std::alloc::Global;
-use trace_commands::report_text::{put, put_number, short_lines};
-use trace_commands::vidi_bench::{
-    Answer, Device, Ended, Reason, Status, TEXT_LIMIT, Word, device_of, read_file, refused,
-    with_bytes,
+use vidi_bench::report_text::{put, put_number, short_lines};
+use vidi_bench::vidi_answer::without_reset;
+use vidi_bench::vidi_io::{Failed, Shelf, write_whole};
+use vidi_bench::{
+    Answer, Device, Ended, Reason, Status, TEXT_LIMIT, Word, device_of, diverged, read_file,
+    refused, trace_of, unstable, with_bytes,
 };
-use trace_commands::vidi_io::{Failed, Shelf, write_whole};
-use trace_commands::{diverged, trace_of};
 
 /// What is replayed: a device, and a trace with the bytes that encode it.
 #[derive(Drop)]
@@ -103,6 +103,7 @@ fn plan_texts(alloc: Global, design: &[u8], map: &[u8], bytes: Bytes) -> Result<
     ensures bytes { IfOk result (λ p. p.bytes ≡ bytes) }
     ensures encodes { IfOk result (λ p. Encodes p.trace bytes) }
     ensures same { IfOk result (λ p. p.trace.channels ≡ p.device.map.channels) }
+    ensures no_reset { IfOk result (λ p. HasNoReset p.trace.packets) }
     ensures runnable { IfOk result (λ p. IsRunnable p.device) }
     ensures refused { IfErr result (EndsWith (RefusedReplay design.now map.now bytes)) }
 {
@@ -115,15 +116,16 @@ fn plan_texts(alloc: Global, design: &[u8], map: &[u8], bytes: Bytes) -> Result<
     })
 }
 
-/// The trace of these bytes, which has the channels of the map.
+/// The trace of these bytes, which has the channels of the map and no reset.
 pub fn trace_over(alloc: Global, bytes: &[u8], map: &Map) -> Result<Trace, Ended>
     ensures encodes { IfOk result (λ t. Encodes t bytes.now) }
     ensures same { IfOk result (λ t. t.channels ≡ map.now.channels) }
+    ensures no_reset { IfOk result (λ t. HasNoReset t.packets) }
     ensures refused { IfErr result (EndsWith (RefusedTrace bytes.now map.now)) }
 {
     let trace = trace_of(alloc, Word::Trace, bytes)?;
     match same_channels(&map.channels, &trace.channels) {
-        None => Ok(trace),
+        None => without_reset(alloc, Word::Trace, trace),
         Some(at) => Err(Ended::Refused(refused(alloc, Word::Trace, Reason::OtherChannels { at })?)),
     }
 }
@@ -139,6 +141,7 @@ fn replayed<S: Shelf>(
     requires runnable { IsRunnable plan.device }
     requires encodes { Encodes plan.trace plan.bytes }
     requires same { plan.trace.channels ≡ plan.device.map.channels }
+    requires no_reset { HasNoReset plan.trace.packets }
     requires few { cycles ≤ MOST_CYCLES }
     ensures done { IfOk result (λ a. ReplaysTrace plan.device plan.trace cycles out.now (S.files shelf.old)
         (HasStarted (S.starts shelf.old) (S.starts shelf.new)) a.status (text_of a.text) (S.files shelf.new)) }
@@ -167,6 +170,7 @@ fn replayed<S: Shelf>(
 pub fn played(alloc: Global, device: Device, bytes: &[u8], cycles: u32) -> Result<Replayed, Memory>
     requires runnable { IsRunnable device }
     requires trace { (t : OneTrace) × Encodes t bytes.now × (t.channels ≡ device.map.channels) }
+    requires no_reset { (t : OneTrace) × Encodes t bytes.now × HasNoReset t.packets }
     requires few { cycles ≤ MOST_CYCLES }
     ensures { IfOk result (λ r. (t : OneTrace) → Encodes t bytes.now → (rows : List OneRow)
         × IsTheReplay device t cycles rows r.outcome × Encodes (trace_of device.map.channels rows) r.out) }
@@ -188,6 +192,7 @@ fn replay_sim(
     requires order { IsOrder design order.drivers }
     requires mapped { IsMapOf design map.now }
     requires trace { (t : OneTrace) × Encodes t bytes.now × (t.channels ≡ map.now.channels) }
+    requires no_reset { (t : OneTrace) × Encodes t bytes.now × HasNoReset t.packets }
     requires few { cycles ≤ MOST_CYCLES }
     ensures { IfOk result (λ r. (t : OneTrace) → Encodes t bytes.now → (rows : List OneRow)
         × EndsAs design map.now t.packets cycles rows r.outcome × Encodes (trace_of map.now.channels rows) r.out) }
@@ -197,7 +202,7 @@ fn replay_sim(
 }
 
 /// Replays the trace of these bytes on a block.
-#[tactic(auto, using(run_commands::proofs::PortNets::port_nets))]
+#[tactic(auto, using(crate::proofs::PortNets::port_nets))]
 fn replay_block<B: Block + Drop>(
     alloc: Global,
     block: B,
@@ -208,6 +213,7 @@ fn replay_block<B: Block + Drop>(
     requires lawful { IsLawful (B.design block) }
     requires mapped { IsMapOf (B.design block) map.now }
     requires trace { (t : OneTrace) × Encodes t bytes.now × (t.channels ≡ map.now.channels) }
+    requires no_reset { (t : OneTrace) × Encodes t bytes.now × HasNoReset t.packets }
     requires few { cycles ≤ MOST_CYCLES }
     ensures { IfOk result (λ r. (t : OneTrace) → Encodes t bytes.now → (rows : List OneRow)
         × EndsAs (B.design block) map.now t.packets cycles rows r.outcome × Encodes (trace_of map.now.channels rows) r.out) }
@@ -249,7 +255,7 @@ fn verdict(alloc: Global, trace: &Trace, written: &[u8], cycles: u32) -> Result<
         → IsVerdict (said.replayed_line cycles) trace.now u a.status (text_of a.text)) }
 {
     let other = decoded(alloc, written)?;
-    let report = trace_commands::trace_compare::compare(alloc, trace, &other)?;
+    let report = vidi_bench::trace_compare::compare(alloc, trace, &other)?;
     if report.is_empty() {
         return whole(alloc, cycles);
     }

@@ -1,9 +1,9 @@
 -- What a sink over a file has left of the files, by what it tells.
-use Rattle.std.proofs.Common.{◌≡◌, ◌⊎◌, ℕ, ◌<◌, ◌≤◌, Bool, true, false, List, [], ◌∷◌, Option, None, Some, Result, Ok, Err, length, drop}
+use Rattle.std.proofs.Common.{◌≡◌, ◌⊎◌, ℕ, ◌<◌, ◌≤◌, Bool, true, false, List, [], ◌∷◌, Option, None, Some, Ok, length, drop}
 use Rattle.std.proofs.Common.{inl, inr, ⊎_elim, refl, sym, ap, subst, ◌∙◌, arith}
 use Rattle.std.proofs.lemmas.Bool.{true≢false}
 use Rattle.std.proofs.lemmas.Option.{same_Some}
-use Rattle.std.specs.Prelude.{IfOk, IfErr, IfSome}
+use Rattle.std.specs.Prelude.{IfSome}
 use Rattle.std.specs.Io.KnownBytes.{append_known}
 use Rattle.bench_run.specs.trace_model.declared.row.Row.{Row}
 use Rattle.bench_run.specs.trace_model.declared.trace.Trace.{Trace}
@@ -145,14 +145,6 @@ file-fails w runs stands started files now name reads before starts first errors
     left-short w files now name cut.bytes first starts rows cut.reached.0 front left
 
 -- what holds of what a call gives, and of the error that it gives
-pub if-ends : {X E : Type 0} {P Q : X → Type 0} (r : Result X E) → IfOk r P → ((x : X) → P x → Q x) → IfOk r Q
-if-ends (Ok x) p f = f x p
-if-ends (Err e) p f = tt
-
-pub if-fails : {X E : Type 0} {P Q : E → Type 0} (r : Result X E) → IfErr r P → ((e : E) → r ≡ Err e → P e → Q e) → IfErr r Q
-if-fails (Ok x) p f = tt
-if-fails (Err e) p f = f e refl p
-
 pub later-as : (before now last : List ℕ → ℕ) (old was new end : ℕ) → last ≡ now → end ≡ new → was ≡ old
     → ((q : List ℕ) → before q ≤ now q) → was ≤ new → Later before last old end
 later-as before now last old was new end l e w reads writes = record {

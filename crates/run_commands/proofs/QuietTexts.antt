@@ -2,7 +2,7 @@
 use Rattle.std.proofs.Common.{◌≡◌, ℕ, Bool, List, Option, None, Some, Ok, inl, inr, length}
 use Rattle.bench_run.specs.trace_model.declared.channel.Channel.{Channel}
 use Rattle.bench_run.specs.trace_model.declared.row.Row.{Row}
-use Rattle.bench_run.specs.trace_model.Recording.{packets_of}
+use Rattle.bench_run.specs.trace_model.Recording.{trace_of}
 use Rattle.net_design.specs.declared.design.Design.{Design}
 use Rattle.vidi_bench.specs.vlog_design.Design.{file_counts}
 use Rattle.bench_run.specs.chan_map.declared.pins.Map.{Map}
@@ -18,8 +18,8 @@ use Rattle.vidi_bench.specs.report_text.declared.reason.Word.TheVariants as word
 use Rattle.vidi_bench.specs.report_text.declared.reason.Reason.TheVariants.{StallLine, TooSmall}
 use Rattle.vidi_bench.specs.report_text.Rows.{run_text}
 use Rattle.vidi_bench.specs.declared.bench.Bench.{Bench}
-use Rattle.vidi_bench.specs.declared.status.Status.{Status}
-use Rattle.vidi_bench.specs.declared.status.Status.TheVariants.{Done, WriteFault, Unstable}
+use Rattle.vidi_bench.specs.vidi_answer.declared.status.Status.{Status}
+use Rattle.vidi_bench.specs.vidi_answer.declared.status.Status.TheVariants.{Done, WriteFault, Unstable}
 use Rattle.vidi_bench.specs.Benches.{RefusedTexts, IsBench}
 use Rattle.vidi_bench.specs.Design.{text_limit, Building}
 use Rattle.vidi_bench.specs.Reading.{Reading}
@@ -69,7 +69,7 @@ mute-planned design m script stalls = mute-step (RefusedTexts design m script) (
     (IsTooSmall b.device.map.channels) (mute-no_plan stalls) (mute-small b.device.map.channels))
 
 pub mute-recorded : (channels : List Channel) (rows : List Row) (stop : Option ℕ) → Mute (IsRecorded channels rows stop)
-mute-recorded channels rows None = mute-said Done (recorded_line (length rows) (length (packets_of channels rows))) done-goes
+mute-recorded channels rows None = mute-said Done (recorded_line (length rows) (length (trace_of channels rows).packets)) done-goes
 mute-recorded channels rows (Some c) =
     mute-said (Unstable c (length rows)) (unstable_line channels c (length rows)) (unstable-goes c (length rows))
 

@@ -1,5 +1,5 @@
 -- From a recording into a file to the answer of `record`.
-use Rattle.std.proofs.Common.{◌≡◌, ℕ, Bool, true, false, List, Option, None, Some, Result, Ok, Err, length, inl, inr, sym, ap, subst, ◌∙◌}
+use Rattle.std.proofs.Common.{◌≡◌, ℕ, Bool, false, List, Option, None, Some, Result, Ok, Err, length, inl, inr, sym, ap, subst, ◌∙◌}
 use Rattle.std.specs.Prelude.{IfOk, IfErr}
 use Rattle.bench_run.specs.env_script.declared.stalls.Stalls.{Stalls}
 use Rattle.vidi_recorder.specs.vidi_io.Shelf.{Files}
@@ -7,12 +7,12 @@ use Rattle.vidi_recorder.specs.vidi_io.Writing.{IsKept}
 use Rattle.vidi_recorder.specs.declared.error.Outcome.{Outcome}
 use Rattle.vidi_recorder.specs.declared.error.Outcome.TheVariants as outcomes
 use Rattle.vidi_recorder.specs.Course.{Course}
-use Rattle.vidi_bench.specs.declared.answer.Answer.{Answer}
-use Rattle.vidi_bench.specs.declared.answer.Ended.{Ended}
-use Rattle.vidi_bench.specs.declared.answer.Ended.TheVariants as ends
+use Rattle.vidi_bench.specs.vidi_answer.declared.answer.Answer.{Answer}
+use Rattle.vidi_bench.specs.vidi_answer.declared.answer.Ended.{Ended}
+use Rattle.vidi_bench.specs.vidi_answer.declared.answer.Ended.TheVariants as ends
 use Rattle.vidi_bench.specs.declared.bench.Bench.{Bench}
-use Rattle.vidi_bench.specs.declared.status.Status.{Status}
-use Rattle.vidi_bench.specs.declared.status.Status.TheVariants.{Unstable}
+use Rattle.vidi_bench.specs.vidi_answer.declared.status.Status.{Status}
+use Rattle.vidi_bench.specs.vidi_answer.declared.status.Status.TheVariants.{Unstable}
 use Rattle.vidi_bench.specs.AnswerText.{text_of}
 use Rattle.vidi_bench.specs.Ended.{IsStopped, Owes}
 use Rattle.run_commands.specs.Recorded.{FileEnds, IsOutcome}

@@ -6,7 +6,7 @@ use Rattle.bench_run.specs.env_script.Reasons.{read_lines}
 use Rattle.bench_run.specs.env_script.Stalls.{ReadsStalls}
 use Rattle.vidi_recorder.specs.vidi_io.Shelf.{Files}
 use Rattle.vidi_recorder.specs.Course.{sizes_of}
-use Rattle.vidi_bench.specs.declared.answer.Ended.{Ended}
+use Rattle.vidi_bench.specs.vidi_answer.declared.answer.Ended.{Ended}
 use Rattle.run_commands.specs.declared.recording.Planned.{Planned}
 use Rattle.vidi_bench.specs.Benches.{IsBench, ReadTexts}
 use Rattle.vidi_bench.specs.Design.{text_limit}

@@ -3,7 +3,7 @@ use Rattle.std.specs.Prelude.{ℕ, List, Option}
 use Rattle.vidi_recorder.specs.vidi_io.Shelf.{Files}
 use Rattle.vidi_bench.specs.vlog_design.Design.{file_counts}
 use Rattle.vidi_bench.specs.report_text.declared.reason.Word.TheVariants as words
-use Rattle.vidi_bench.specs.declared.status.Status.TheVariants.{Done}
+use Rattle.vidi_bench.specs.vidi_answer.declared.status.Status.TheVariants.{Done}
 use Rattle.vidi_bench.specs.Design.{text_limit, Building, Spelling}
 use Rattle.vidi_bench.specs.Reading.{Reading}
 use Rattle.run_commands.specs.Said.{check_text}

@@ -4,7 +4,7 @@ use Rattle.vidi_recorder.specs.vidi_io.Shelf.{Files, holding}
 use Rattle.vidi_recorder.specs.vidi_io.Writing.{IsKept}
 use Rattle.bench_run.specs.trace_model.declared.channel.Channel.{Channel}
 use Rattle.bench_run.specs.trace_model.declared.row.Row.{Row}
-use Rattle.bench_run.specs.trace_model.Recording.{packets_of, trace_of}
+use Rattle.bench_run.specs.trace_model.Recording.{trace_of}
 use Rattle.vidi_recorder.specs.trace_code.Encoding.{encode}
 use Rattle.vidi_recorder.specs.room_ledger.Reservation.{need}
 use Rattle.bench_run.specs.env_script.declared.error.StallError.TheVariants as errors
@@ -17,8 +17,8 @@ use Rattle.vidi_recorder.specs.Recording.{IsFrontOfTheRun}
 use Rattle.vidi_bench.specs.report_text.declared.reason.Word.TheVariants as words
 use Rattle.vidi_bench.specs.report_text.declared.reason.Reason.TheVariants.{StallLine, TooSmall}
 use Rattle.vidi_bench.specs.declared.bench.Bench.{Bench}
-use Rattle.vidi_bench.specs.declared.status.Status.{Status}
-use Rattle.vidi_bench.specs.declared.status.Status.TheVariants.{Done, Unstable}
+use Rattle.vidi_bench.specs.vidi_answer.declared.status.Status.{Status}
+use Rattle.vidi_bench.specs.vidi_answer.declared.status.Status.TheVariants.{Done, Unstable}
 use Rattle.vidi_bench.specs.Steps.{Ending, IsSaid, IsRefusal, Step}
 use Rattle.vidi_bench.specs.Reading.{IsRead, Reading}
 use Rattle.vidi_bench.specs.Design.{text_limit}
@@ -75,7 +75,7 @@ course_of b plan = course b.device.design b.device.map (script_offer b.script) p
 
 -- the run has all its cycles, or ends before the row of this cycle, which is unstable on this channel
 abbrev pub IsRecorded : List Channel → List Row → Option ℕ → Ending
-IsRecorded channels rows None = IsSaid Done (recorded_line (length rows) (length (packets_of channels rows)))
+IsRecorded channels rows None = IsSaid Done (recorded_line (length rows) (length (trace_of channels rows).packets))
 IsRecorded channels rows (Some channel) = IsSaid (Unstable channel (length rows)) (unstable_line channels channel (length rows))
 
 -- exactly one start succeeded; of files that aren't told, one or none

@@ -11,7 +11,7 @@ use Rattle.bench_run.specs.declared.plain.Spot.{Spot}
 use Rattle.bench_run.specs.Plain.{IsPlainRun}
 use Rattle.vidi_bench.specs.report_text.Rows.{run_text}
 use Rattle.vidi_bench.specs.declared.bench.Bench.{Bench}
-use Rattle.vidi_bench.specs.declared.status.Status.TheVariants.{Done, Unstable}
+use Rattle.vidi_bench.specs.vidi_answer.declared.status.Status.TheVariants.{Done, Unstable}
 use Rattle.vidi_bench.specs.Steps.{Ending, IsSaid, Step}
 use Rattle.vidi_bench.specs.Benches.{ReadTexts, RefusedTexts, IsBench}
 use Rattle.run_commands.specs.Said.{cycles_line, unstable_line}

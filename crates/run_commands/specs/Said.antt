@@ -1,11 +1,11 @@
 -- *Said*: what `check`, `run` and `record` print (this project's profile). Every line ends with a newline, and numbers are decimal.
 use Rattle.std.specs.Prelude.{ℕ, List, ◌++◌, length, codes, decimal}
 use Rattle.std.specs.List.{sum_by}
-use Rattle.bench_run.specs.trace_model.declared.channel.Channel.{Channel}
 use Rattle.vidi_bench.specs.report_text.Text.{newline}
 use Rattle.vlog_tree.specs.Tree.{ModuleOf, FileOf}
 use Rattle.net_design.specs.declared.design.Counts.{Counts}
 pub use Rattle.vidi_bench.specs.report_text.Report.{name_of}
+pub use Rattle.vidi_bench.specs.vidi_answer.Said.{recorded_line, unstable_line}
 
 -- the items of all modules
 abbrev pub items : {A : Type 0} → FileOf A → ℕ
@@ -31,12 +31,3 @@ check_text f c = file_line f ++ counts_line c
 -- `cycles N`
 abbrev pub cycles_line : ℕ → List ℕ
 cycles_line n = codes "cycles " ++ (decimal n ++ newline)
-
--- `recorded N cycles N packets`
-abbrev pub recorded_line : ℕ → ℕ → List ℕ
-recorded_line cycles packets =
-    codes "recorded " ++ (decimal cycles ++ (codes " cycles " ++ (decimal packets ++ (codes " packets" ++ newline))))
-
--- `vidi: unstable CH cycle N`
-abbrev pub unstable_line : List Channel → ℕ → ℕ → List ℕ
-unstable_line channels c t = codes "vidi: unstable " ++ (name_of channels c ++ (codes " cycle " ++ (decimal t ++ newline)))

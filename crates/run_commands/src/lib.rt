@@ -2,12 +2,10 @@
 #![tactic(auto)]
 
 mod checking;
-mod line;
 mod recording;
 mod running;
 
 pub use checking::check;
-pub use line::unstable;
 pub use net_sim;
 pub use net_sim::net_order;
 pub use recording::{Planned, plan_texts, record, record_sim};

@@ -1,6 +1,6 @@
 //! The command `record`.
 
-ghost use Rattle.run_commands.specs.declared.line.TheConstants.{LINE_BYTES};
+ghost use Rattle.vidi_bench.specs.vidi_answer.declared.line.TheConstants.{LINE_BYTES};
 ghost use Rattle.std.specs.Prelude.{◌≡◌, ◌≤◌, [], false, Option, Ok, IfOk, IfErr, length};
 ghost use Rattle.bench_run.specs.trace_model.declared.row.Row.{Row as OneRow};
 ghost use Rattle.bench_run.specs.trace_model.Channel.{IsTable};
@@ -29,7 +29,6 @@ ghost use Rattle.run_commands.specs.Records.{course_of, IsCutShort, IsNoPlan, Is
 ghost use Rattle.run_commands.specs.Records.{Records, RecordsRun, RefusedPlanned, StopsRecording};
 ghost use Rattle.run_commands.specs.Recorded.{FileEnds, FileFails, IsOutcome};
 
-use crate::line::{LINE_BYTES, recorded_line, unstable_line, with_line};
 use bench_run::chan_map::Map;
 use bench_run::chan_monitor::{Machines, Shell};
 use bench_run::env_script::{Env, Script, ScriptEnv, StallError, Stalls, read_stalls};
@@ -40,8 +39,8 @@ use net_sim::net_order::Order;
 use std::alloc::Global;
 use vidi_bench::report_text::Pad;
 use vidi_bench::{
-    Answer, Bench, Device, Ended, Reason, Status, TEXT_LIMIT, Texts, Word, bench_of, read_file,
-    read_texts, refused,
+    Answer, Bench, Device, Ended, LINE_BYTES, Reason, Status, TEXT_LIMIT, Texts, Word, bench_of,
+    read_file, read_texts, recorded_line, refused, unstable_line, with_line,
 };
 use vidi_recorder::room_ledger::{Room, RoomError};
 use vidi_recorder::vidi_io::{Shelf, ShelfSink};

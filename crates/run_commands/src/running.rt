@@ -18,7 +18,6 @@ ghost use Rattle.run_commands.specs.Runs.{Runs, IsPlayed, IsEnded};
 ghost use Rattle.run_commands.specs.Said as said;
 ghost use Rattle.vidi_bench.specs.Steps.{IsSaid};
 
-use crate::line::{LINE_BYTES, unstable_line};
 use bench_run::chan_map::Map;
 use bench_run::env_script::{Script, ScriptEnv};
 use bench_run::trace_model::{Channels, Rows};
@@ -30,7 +29,10 @@ use net_sim::vidi_bits::{Bytes, Memory};
 use std::alloc::Global;
 use std::mem::replace;
 use vidi_bench::report_text::{Pad, RunLines, put, put_number};
-use vidi_bench::{Answer, AnswerText, Bench, Device, Ended, Status, bench_of, read_texts};
+use vidi_bench::{
+    Answer, AnswerText, Bench, Device, Ended, LINE_BYTES, Status, bench_of, read_texts,
+    unstable_line,
+};
 use vidi_recorder::vidi_io::Shelf;
 
 /// What `run` is answered.

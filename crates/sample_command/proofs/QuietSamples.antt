@@ -7,12 +7,12 @@ use Rattle.sample_gen.specs.Sample.{sample}
 use Rattle.replay_command.specs.replay_run.declared.outcome.ReplayOutcome.{ReplayOutcome}
 use Rattle.replay_command.specs.replay_run.declared.outcome.ReplayOutcome.TheVariants as outcomes
 use Rattle.sample_command.specs.declared.sampling.Figures.{Figures}
-use Rattle.replay_command.specs.vidi_bench.declared.status.Status.TheVariants.{Done, Diverged, WriteFault}
+use Rattle.replay_command.specs.vidi_bench.vidi_answer.declared.status.Status.TheVariants.{Done, Diverged, WriteFault}
 use Rattle.sample_command.specs.Said.{sample_line}
 use Rattle.sample_command.specs.Samples.{figures, sample_cycles, IsSampleSaid, IsSampleVerdict, IsTraced, IsUntraced, Samples, SamplesFiles, SamplesReplay}
 use Rattle.replay_command.proofs.vidi_bench_lemmas.Quiet.{Mute, mute-said, mute-step, done-goes}
 use Rattle.replay_command.proofs.QuietReplays.{mute-refused_replay, mute-replay_said}
-use Rattle.replay_command.proofs.run_commands_lemmas.QuietTexts.{mute-planned, mute-recorded}
+use Rattle.run_commands.proofs.QuietTexts.{mute-planned, mute-recorded}
 
 mute-untraced : (design map script stalls : List ℕ) → Mute (IsUntraced design map script stalls)
 mute-untraced design map script stalls x (inl refused) = mute-planned design map script stalls x refused

@@ -15,13 +15,13 @@ use Rattle.replay_command.specs.vidi_io.declared.mem_shelf.MemShelf.{MemShelf}
 use Rattle.replay_command.specs.vidi_io.Entries.{files_of}
 use Rattle.replay_command.specs.vidi_io.MemShelf.{entries}
 use Rattle.replay_command.specs.vidi_io.Shelf.{Files, holding}
-use Rattle.replay_command.specs.vidi_recorder.declared.error.Outcome.TheVariants as outcomes
-use Rattle.replay_command.specs.vidi_recorder.Course.{Course, sizes_of}
-use Rattle.replay_command.specs.vidi_bench.declared.answer.Ended.{Ended}
+use Rattle.run_commands.specs.vidi_recorder.declared.error.Outcome.TheVariants as outcomes
+use Rattle.run_commands.specs.vidi_recorder.Course.{Course, sizes_of}
+use Rattle.replay_command.specs.vidi_bench.vidi_answer.declared.answer.Ended.{Ended}
 use Rattle.replay_command.specs.vidi_bench.declared.bench.Bench.{Bench}
 use Rattle.replay_command.specs.vidi_bench.Benches.{IsBench}
-use Rattle.replay_command.specs.run_commands.Recorded.{FileEnds}
-use Rattle.replay_command.specs.run_commands.Records.{course_of}
+use Rattle.run_commands.specs.Recorded.{FileEnds}
+use Rattle.run_commands.specs.Records.{course_of}
 use Rattle.sample_command.specs.Sampled.{trace_on, HasTrace, IsTraceOf, IsUnstable}
 use Rattle.sample_command.specs.Samples.{IsTraced, IsUntraced}
 use Rattle.replay_command.proofs.vidi_bench_lemmas.Chain.{Implies}

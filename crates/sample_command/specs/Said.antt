@@ -1,9 +1,9 @@
 -- *Said*: what `sample` prints (this project's profile). Every line ends with a newline, and numbers are decimal.
 use Rattle.std.specs.Prelude.{ℕ, List, ◌++◌, codes}
 use Rattle.replay_command.specs.report_text.Text.{newline}
-use Rattle.replay_command.specs.run_commands.Said.{counted}
+use Rattle.run_commands.specs.Said.{counted}
 use Rattle.sample_command.specs.declared.sampling.Figures.{Figures}
-pub use Rattle.replay_command.specs.trace_commands.Said.{diverged_text}
+pub use Rattle.replay_command.specs.vidi_bench.Said.{diverged_text}
 
 -- `sample N: stages N sends N cycles N packets N replay N`
 abbrev pub sample_figures : Figures → List ℕ

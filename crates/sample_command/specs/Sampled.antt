@@ -8,9 +8,9 @@ use Rattle.replay_command.specs.vidi_io.declared.mem_shelf.MemShelf.{MemShelf}
 use Rattle.replay_command.specs.vidi_io.Entries.{files_of}
 use Rattle.replay_command.specs.vidi_io.MemShelf.{entries}
 use Rattle.sample_gen.specs.declared.files.Sample.{Sample}
-use Rattle.replay_command.specs.vidi_recorder.Course.{Course, IsTheRunOf}
+use Rattle.run_commands.specs.vidi_recorder.Course.{Course, IsTheRunOf}
 use Rattle.replay_command.specs.vidi_bench.Design.{text_limit}
-use Rattle.replay_command.specs.run_commands.Records.{IsRecorded}
+use Rattle.run_commands.specs.Records.{IsRecorded}
 use Rattle.replay_command.specs.vidi_bench.Steps.{Ending}
 
 -- no text is longer than its limit

@@ -4,13 +4,14 @@ use Rattle.sample_gen.specs.trace_model.declared.row.Row.{Row}
 use Rattle.sample_gen.specs.trace_model.declared.trace.Trace.{Trace}
 use Rattle.sample_gen.specs.trace_model.Recording.{trace_of}
 use Rattle.replay_command.specs.trace_code.Encoding.{Encodes, encode}
+use Rattle.replay_command.specs.trace_code.NoReset.{HasNoReset}
 use Rattle.replay_command.specs.trace_compare.Findings.{findings}
 use Rattle.sample_gen.specs.room_ledger.Reservation.{need}
 use Rattle.sample_gen.specs.trace_model.declared.packet.TheConstants.{MOST_CYCLES}
 use Rattle.sample_gen.specs.env_script.declared.stalls.Stalls.{Stalls}
 use Rattle.sample_gen.specs.env_script.Reasons.{read_lines}
 use Rattle.sample_gen.specs.env_script.Stalls.{ReadsStalls}
-use Rattle.replay_command.specs.vidi_recorder.Course.{sizes_of, IsTheRunOf}
+use Rattle.run_commands.specs.vidi_recorder.Course.{sizes_of, IsTheRunOf}
 use Rattle.replay_command.specs.replay_run.declared.outcome.ReplayOutcome.{ReplayOutcome}
 use Rattle.replay_command.specs.replay_run.declared.outcome.ReplayOutcome.TheVariants as outcomes
 use Rattle.sample_gen.specs.declared.files.Sample.{Sample}
@@ -18,10 +19,10 @@ use Rattle.sample_gen.specs.Sample.{sample}
 use Rattle.replay_command.specs.vidi_bench.declared.bench.Bench.{Bench}
 use Rattle.replay_command.specs.vidi_bench.declared.device.Device.{Device}
 use Rattle.sample_command.specs.declared.sampling.Figures.{Figures}
-use Rattle.replay_command.specs.vidi_bench.declared.status.Status.TheVariants.{Done, Diverged}
+use Rattle.replay_command.specs.vidi_bench.vidi_answer.declared.status.Status.TheVariants.{Done, Diverged}
 use Rattle.replay_command.specs.vidi_bench.Benches.{IsBench}
 use Rattle.replay_command.specs.vidi_bench.Devices.{IsDevice}
-use Rattle.replay_command.specs.run_commands.Records.{course_of, IsRecorded, RefusedPlanned}
+use Rattle.run_commands.specs.Records.{course_of, IsRecorded, RefusedPlanned}
 use Rattle.replay_command.specs.Replays.{IsReplaySaid, IsTheReplay, RefusedReplay}
 use Rattle.sample_command.specs.Said.{diverged_text, sample_line}
 use Rattle.replay_command.specs.vidi_bench.Steps.{Ending, IsSaid, Step}
@@ -52,11 +53,12 @@ IsTraced design map script stalls bytes = (b : Bench) × (plan : Stalls) × (row
 
 -- ---- replaying, as `replay` does
 
--- the texts say this design with its map, and the bytes encode this trace of the map's channels
+-- the texts say this design with its map, and the bytes encode this trace of the map's channels without a reset
 pub record IsReplayableTexts (design map bytes : List ℕ) (v : Device) (t : Trace) : Type 0 where
   pub device : IsDevice design map v
   pub encodes : Encodes t bytes
   pub same : t.channels ≡ v.map.channels
+  pub no_reset : HasNoReset t.packets
 
 -- the line is said, and the findings behind it where there are any
 abbrev pub IsSampleVerdict : List ℕ → Trace → Trace → Ending

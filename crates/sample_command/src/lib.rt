@@ -4,7 +4,8 @@
 mod sampling;
 
 pub use replay_command;
-pub use replay_command::{replay_run, run_commands, trace_code, trace_commands};
+pub use replay_command::{replay_run, trace_code};
+pub use run_commands;
 pub use sample_gen;
 pub use sample_gen::env_script;
 pub use sampling::sample;

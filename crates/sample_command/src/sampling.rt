@@ -3,15 +3,16 @@
 ghost use Rattle.std.specs.Prelude.{◌≡◌, ◌≤◌, ◌++◌, false, Some, IsSome, IfOk, IfErr, OnOk, length};
 ghost use Rattle.sample_gen.specs.trace_model.declared.trace.Trace.{Trace as OneTrace};
 ghost use Rattle.replay_command.specs.trace_code.Encoding.{Encodes, HasEncoding};
+ghost use Rattle.replay_command.specs.trace_code.NoReset.{HasNoReset};
 ghost use Rattle.sample_gen.specs.room_ledger.Ledger.{empty};
 ghost use Rattle.sample_gen.specs.declared.generate.TheConstants.{LARGEST};
-ghost use Rattle.replay_command.specs.vidi_recorder.Course.{sizes_of};
+ghost use Rattle.run_commands.specs.vidi_recorder.Course.{sizes_of};
 ghost use Rattle.replay_command.specs.vidi_bench.AnswerText.{text_of};
 ghost use Rattle.replay_command.specs.vidi_bench.Benches.{AreWithin, IsPlayable};
 ghost use Rattle.replay_command.specs.vidi_bench.Design.{text_limit};
 ghost use Rattle.replay_command.specs.vidi_bench.Devices.{IsRunnable};
 ghost use Rattle.replay_command.specs.vidi_bench.Ended.{EndsWith, IsAnswered};
-ghost use Rattle.replay_command.specs.run_commands.Records.{course_of};
+ghost use Rattle.run_commands.specs.Records.{course_of};
 ghost use Rattle.sample_command.specs.Said as said;
 ghost use Rattle.sample_command.specs.Sampled as on_shelf;
 ghost use Rattle.sample_command.specs.Sampled.{AreShort, HasTrace, IsTraceOf, IsUnstable};
@@ -20,15 +21,14 @@ ghost use Rattle.replay_command.specs.vidi_bench.Steps.{IsSaid};
 
 use replay_command::replay_run::{ReplayOutcome, Replayed};
 use replay_command::report_text::{put, put_number};
-use replay_command::run_commands::{Planned, plan_texts, record_sim, unstable};
-use replay_command::trace_commands::diverged_text;
 use replay_command::trace_compare::Report;
 use replay_command::vidi_bench::{
-    Answer, Bench, Device, Ended, Status, Texts, device_of, with_bytes,
+    Answer, Bench, Device, Ended, Status, Texts, device_of, diverged_text, unstable, with_bytes,
 };
 use replay_command::vidi_io::{Fails, MemShelf};
-use replay_command::vidi_recorder::Outcome;
 use replay_command::{decoded, played, trace_over};
+use run_commands::vidi_recorder::Outcome;
+use run_commands::{Planned, plan_texts, record_sim};
 use sample_gen::Sample;
 use sample_gen::trace_model::{Channels, MOST_CYCLES, Trace};
 use sample_gen::vidi_bits::{Bytes, Memory};
@@ -160,6 +160,7 @@ fn replayed(
     requires runnable { IsRunnable device }
     requires encodes { Encodes trace.now bytes.now }
     requires same { trace.now.channels ≡ device.map.channels }
+    requires no_reset { HasNoReset trace.now.packets }
     ensures { IfOk result (λ a. IsSampleReplay figures device trace.now a.status (text_of a.text)) }
 {
     let Replayed { outcome, out } = played(alloc, device, bytes, MOST_CYCLES)?;

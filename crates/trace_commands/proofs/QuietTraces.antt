@@ -1,35 +1,24 @@
 -- The commands on traces: no failed write among their answers, and the same where no read failed.
 use Rattle.std.proofs.Common.{◌≡◌, ℕ, Bool, List, Option, inl, inr}
-use Rattle.trace_code.specs.trace_model.declared.trace.Trace.{Trace}
-use Rattle.trace_code.specs.Encoding.{Encodes}
-use Rattle.vidi_bench.specs.vidi_io.Shelf.{Files}
-use Rattle.vidi_bench.specs.report_text.declared.reason.Word.{Word}
-use Rattle.vidi_bench.specs.report_text.declared.reason.Word.TheVariants as words
-use Rattle.vidi_bench.specs.report_text.declared.reason.Reason.TheVariants.{BadTrace, OtherChannels}
-use Rattle.vidi_bench.specs.declared.status.Status.{Status}
-use Rattle.vidi_bench.specs.declared.status.Status.TheVariants.{Done, WriteFault, Diverged}
-use Rattle.vidi_bench.specs.Reading.{Reading}
+use Rattle.vidi_answer.specs.trace_code.trace_model.declared.trace.Trace.{Trace}
+use Rattle.vidi_answer.specs.vidi_io.Shelf.{Files}
+use Rattle.vidi_answer.specs.report_text.declared.reason.Word.TheVariants as words
+use Rattle.vidi_answer.specs.report_text.declared.reason.Reason.TheVariants.{BadTrace, OtherChannels}
+use Rattle.vidi_answer.specs.declared.status.Status.{Status}
+use Rattle.vidi_answer.specs.declared.status.Status.TheVariants.{Done, WriteFault}
+use Rattle.vidi_answer.specs.Reading.{Reading}
 use Rattle.trace_commands.specs.Said.{dump_text, no_divergence_line}
-use Rattle.vidi_bench.specs.Steps.{Ending, IsSaid}
-use Rattle.trace_commands.specs.Traces.{trace_limit, IsNoTrace, Decoding, Dumps, IsVerdict, Compared, ComparedFiles, Compares, IsHeaderless, Saves}
-use Rattle.vidi_bench.proofs.Chain.{Implies}
-use Rattle.vidi_bench.proofs.Quiet.{Mute, mute-step, mute-reading, mute-refusal, mute-said, done-goes, quiet-reading}
+use Rattle.vidi_answer.specs.Steps.{IsSaid}
+use Rattle.trace_commands.specs.Traces.{trace_limit, Decoding, Dumps, Compared, ComparedFiles, Compares, IsHeaderless, Saves}
+use Rattle.vidi_answer.proofs.Chain.{Implies}
+use Rattle.vidi_answer.proofs.QuietDecoding.{mute-decoding, mute-verdict}
+use Rattle.vidi_answer.proofs.Quiet.{Mute, mute-reading, mute-refusal, mute-said, done-goes, quiet-reading}
 
 -- ---- no failed write
-mute-no_trace : (word : Word) (file : List ℕ) → Mute (IsNoTrace word file)
-mute-no_trace word file x (at, fault, none, s) = mute-refusal word (BadTrace at) x s
-
-pub mute-decoding : (word : Word) (file : List ℕ) (Next : Trace → Ending) → ((t : Trace) → Mute (Next t)) → Mute (Decoding word file Next)
-mute-decoding word file Next mute = mute-step (IsNoTrace word file) (λ (t : Trace). Encodes t file) Next (mute-no_trace word file) mute
-
 pub mute-dumps : (trace : List ℕ) (files : Option Files) (F : List ℕ → Type 0) → Mute (Dumps trace files F)
 mute-dumps trace files F = mute-reading trace_limit words.Trace trace files F
     (λ file. Decoding words.Trace file (λ t. IsSaid Done (dump_text t)))
     (λ file. mute-decoding words.Trace file (λ t. IsSaid Done (dump_text t)) (λ t. mute-said Done (dump_text t) done-goes))
-
-pub mute-verdict : (line : List ℕ) (t u : Trace) → Mute (IsVerdict line t u)
-mute-verdict line t u x (inl (none, s)) = let e : WriteFault ≡ Done = s.0 in cc
-mute-verdict line t u x (inr (some, s)) = let e : WriteFault ≡ Diverged = s.0 in cc
 
 mute-compared : (t u : Trace) → Mute (Compared t u)
 mute-compared t u x (inl (at, same, other, s)) = mute-refusal words.Other (OtherChannels at) x s

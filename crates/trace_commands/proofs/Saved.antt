@@ -1,21 +1,21 @@
 -- From what is whole of a trace to the answer of `salvage`.
 use Rattle.std.proofs.Common.{◌≡◌, ℕ, Bool, true, false, List, ◌++◌, Option, Result, Ok, Err, inr, ap, subst, ◌∙◌}
 use Rattle.std.specs.Prelude.{IfOk, IfErr, take}
-use Rattle.trace_code.specs.declared.salvaging.Whole.{Whole}
-use Rattle.trace_code.specs.Encoding.{end_mark}
-use Rattle.trace_code.specs.Salvage.{SalvagesFront}
-use Rattle.vidi_bench.specs.vidi_io.Shelf.{Files, holding}
-use Rattle.vidi_bench.specs.vidi_io.Writing.{IsCutOff, IsKept}
-use Rattle.vidi_bench.proofs.vidi_io_lemmas.Cut.{cut-knowing}
-use Rattle.vidi_bench.specs.declared.answer.Answer.{Answer}
-use Rattle.vidi_bench.specs.declared.answer.Ended.{Ended}
-use Rattle.vidi_bench.specs.declared.answer.Ended.TheVariants as ends
-use Rattle.vidi_bench.specs.declared.status.Status.TheVariants.{Done}
-use Rattle.vidi_bench.specs.AnswerText.{text_of}
-use Rattle.vidi_bench.specs.Ended.{IsStopped, Owes}
-use Rattle.vidi_bench.specs.Reading.{IsRead}
+use Rattle.vidi_answer.specs.trace_code.declared.salvaging.Whole.{Whole}
+use Rattle.vidi_answer.specs.trace_code.Encoding.{end_mark}
+use Rattle.vidi_answer.specs.trace_code.Salvage.{SalvagesFront}
+use Rattle.vidi_answer.specs.vidi_io.Shelf.{Files, holding}
+use Rattle.vidi_answer.specs.vidi_io.Writing.{IsCutOff, IsKept}
+use Rattle.vidi_answer.proofs.vidi_io_lemmas.Cut.{cut-knowing}
+use Rattle.vidi_answer.specs.declared.answer.Answer.{Answer}
+use Rattle.vidi_answer.specs.declared.answer.Ended.{Ended}
+use Rattle.vidi_answer.specs.declared.answer.Ended.TheVariants as ends
+use Rattle.vidi_answer.specs.declared.status.Status.TheVariants.{Done}
+use Rattle.vidi_answer.specs.AnswerText.{text_of}
+use Rattle.vidi_answer.specs.Ended.{IsStopped, Owes}
+use Rattle.vidi_answer.specs.Reading.{IsRead}
 use Rattle.trace_commands.specs.Said.{salvaged_line}
-use Rattle.vidi_bench.specs.Steps.{IsSaid}
+use Rattle.vidi_answer.specs.Steps.{IsSaid}
 use Rattle.trace_commands.specs.Traces.{trace_limit, Saves, StopsSaving}
 
 -- the front of the file that is whole, with an end mark

@@ -1,51 +1,24 @@
 -- What the commands on traces owe: each step of them in its order.
-use Rattle.std.specs.Prelude.{◌≡◌, ◌≢◌, ℕ, ◌⊎◌, Bool, List, [], Option, Ok, length, take, slice_get}
-use Rattle.trace_code.specs.trace_model.declared.channel.Channel.{Channel}
-use Rattle.trace_code.specs.trace_model.declared.trace.Trace.{Trace}
-use Rattle.trace_code.specs.Decoding.{IsFaultAt, HasNoHeader}
-use Rattle.trace_code.specs.Encoding.{Encodes, encode}
-use Rattle.trace_code.specs.Salvage.{Salvages}
-use Rattle.vidi_bench.specs.trace_compare.Findings.{findings}
-use Rattle.vidi_bench.specs.vidi_io.Shelf.{Files}
-use Rattle.vidi_bench.specs.vidi_io.Writing.{IsCutOff, IsKept, IsWritten}
-use Rattle.vidi_bench.specs.report_text.declared.reason.Word.{Word}
-use Rattle.vidi_bench.specs.report_text.declared.reason.Word.TheVariants as words
-use Rattle.vidi_bench.specs.report_text.declared.reason.Reason.TheVariants.{BadTrace, OtherChannels}
-use Rattle.trace_code.specs.declared.decoding.TheConstants.{TRACE_LIMIT}
-use Rattle.vidi_bench.specs.declared.status.Status.{Status}
-use Rattle.vidi_bench.specs.declared.status.Status.TheVariants.{Done, Diverged}
-use Rattle.trace_commands.specs.Said.{dump_text, no_divergence_line, diverged_text, salvaged_line}
-use Rattle.vidi_bench.specs.Reading.{IsRead, Reading}
-use Rattle.vidi_bench.specs.Steps.{Ending, IsSaid, IsRefusal, Step}
-
--- the longest trace file, in bytes
-abbrev pub trace_limit : ℕ
-trace_limit = TRACE_LIMIT
-
--- the bytes encode no trace
-abbrev pub IsNoTrace : Word → List ℕ → Ending
-IsNoTrace word file status text =
-    (at : ℕ) × IsFaultAt file at × ((t : Trace) → ¬ Encodes t file) × IsRefusal word (BadTrace at) status text
-
--- the bytes of this word's file encode a trace, and this comes of it
-abbrev pub Decoding : Word → List ℕ → (Trace → Ending) → Ending
-Decoding word file Next = Step (IsNoTrace word file) (λ t. Encodes t file) Next
+use Rattle.std.specs.Prelude.{◌≡◌, ℕ, ◌⊎◌, Bool, List, Option, Ok, length}
+use Rattle.vidi_answer.specs.trace_code.trace_model.declared.trace.Trace.{Trace}
+use Rattle.vidi_answer.specs.trace_code.Decoding.{HasNoHeader}
+use Rattle.vidi_answer.specs.trace_code.Encoding.{encode}
+use Rattle.vidi_answer.specs.trace_code.Salvage.{Salvages}
+use Rattle.vidi_answer.specs.vidi_io.Shelf.{Files}
+use Rattle.vidi_answer.specs.vidi_io.Writing.{IsCutOff, IsKept, IsWritten}
+use Rattle.vidi_answer.specs.report_text.declared.reason.Word.TheVariants as words
+use Rattle.vidi_answer.specs.report_text.declared.reason.Reason.TheVariants.{BadTrace}
+use Rattle.vidi_answer.specs.declared.status.Status.{Status}
+use Rattle.vidi_answer.specs.declared.status.Status.TheVariants.{Done}
+use Rattle.trace_commands.specs.Said.{dump_text, no_divergence_line, salvaged_line}
+pub use Rattle.vidi_answer.specs.Traces.{trace_limit, IsNoTrace, Decoding, HasOtherChannels, IsVerdict}
+use Rattle.vidi_answer.specs.Reading.{IsRead, Reading}
+use Rattle.vidi_answer.specs.Steps.{Ending, IsSaid, IsRefusal}
 
 -- ---- `dump TRACE`
 abbrev pub Dumps : List ℕ → Option Files → (List ℕ → Type 0) → Ending
 Dumps trace files ReadFailed = Reading trace_limit words.Trace trace files ReadFailed
     (λ file. Decoding words.Trace file (λ t. IsSaid Done (dump_text t)))
-
--- ---- `compare TRACE OTHER`
--- there are other channels in the file of this word, first at this place
-abbrev pub HasOtherChannels : Word → List Channel → List Channel → Ending
-HasOtherChannels word channels others status text = (at : ℕ) × (take at channels ≡ take at others)
-    × (slice_get channels at ≢ slice_get others at) × IsRefusal word (OtherChannels at) status text
-
--- the second trace has no findings against the first, and this line is said; or it has some, and they are said
-abbrev pub IsVerdict : List ℕ → Trace → Trace → Ending
-IsVerdict line t u status text = ((findings t u ≡ []) × IsSaid Done line status text)
-    ⊎ ((findings t u ≢ []) × IsSaid Diverged (diverged_text (findings t u) t.channels) status text)
 
 abbrev pub Compared : Trace → Trace → Ending
 Compared t u status text = HasOtherChannels words.Other t.channels u.channels status text

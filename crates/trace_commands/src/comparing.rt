@@ -1,24 +1,23 @@
 //! The command `compare`.
 
 ghost use Rattle.std.specs.Prelude.{◌≡◌, IfOk};
-ghost use Rattle.trace_code.specs.Encoding.{HasEncoding};
-ghost use Rattle.vidi_bench.specs.vidi_io.Cause.{Rose};
-ghost use Rattle.vidi_bench.specs.vidi_io.Shelf.{Later};
-ghost use Rattle.vidi_bench.specs.AnswerText.{text_of};
-ghost use Rattle.vidi_bench.specs.Ended.{IsAnswered};
+ghost use Rattle.vidi_answer.specs.trace_code.Encoding.{HasEncoding};
+ghost use Rattle.vidi_answer.specs.vidi_io.Cause.{Rose};
+ghost use Rattle.vidi_answer.specs.vidi_io.Shelf.{Later};
+ghost use Rattle.vidi_answer.specs.AnswerText.{text_of};
+ghost use Rattle.vidi_answer.specs.Ended.{IsAnswered};
 ghost use Rattle.trace_commands.specs.Said as said;
-ghost use Rattle.vidi_bench.specs.Steps.{IsSaid};
+ghost use Rattle.vidi_answer.specs.Steps.{IsSaid};
 ghost use Rattle.trace_commands.specs.Traces.{Compared, ComparedFiles, Compares, IsVerdict};
 
-use crate::dumping::trace_of;
 use std::alloc::Global;
-use trace_code::TRACE_LIMIT;
-use trace_code::trace_model::{Channels, Trace, same_channels};
-use trace_code::vidi_bits::{Bytes, Memory};
-use vidi_bench::report_text::{put, report_lines};
-use vidi_bench::trace_compare::Report;
-use vidi_bench::vidi_io::Shelf;
-use vidi_bench::{Answer, Ended, Reason, Status, Word, read_file, refused, with_bytes};
+use vidi_answer::trace_code::TRACE_LIMIT;
+use vidi_answer::trace_code::trace_model::{Trace, same_channels};
+use vidi_answer::trace_code::vidi_bits::{Bytes, Memory};
+use vidi_answer::vidi_io::Shelf;
+use vidi_answer::{
+    Answer, Ended, Reason, Status, Word, diverged, read_file, refused, trace_of, with_bytes,
+};
 
 /// What `compare` is answered.
 pub fn compare<S: Shelf>(
@@ -64,7 +63,7 @@ fn verdict(alloc: Global, trace: &Trace, other: &Trace) -> Result<Answer, Memory
     requires same { trace.now.channels ≡ other.now.channels }
     ensures { IfOk result (λ a. IsVerdict said.no_divergence_line trace.now other.now a.status (text_of a.text)) }
 {
-    let report = vidi_bench::trace_compare::compare(alloc, trace, other)?;
+    let report = vidi_answer::trace_compare::compare(alloc, trace, other)?;
     if report.is_empty() {
         return no_divergence(alloc);
     }
@@ -76,20 +75,4 @@ fn no_divergence(alloc: Global) -> Result<Answer, Memory>
 {
     let text = Vec::from_slice(alloc, b"no divergence\n")?;
     Ok(with_bytes(Status::Done, Bytes::from_vec(text)))
-}
-
-pub fn diverged(alloc: Global, report: &Report, channels: &Channels) -> Result<Answer, Memory>
-    ensures { IfOk result (λ a. IsSaid Status.Diverged (said.diverged_text report.now channels.now) a.status (text_of a.text)) }
-{
-    let text = diverged_text(alloc, report, channels)?;
-    Ok(with_bytes(Status::Diverged, text))
-}
-
-/// The lines of the findings, and that the traces diverged.
-pub fn diverged_text(alloc: Global, report: &Report, channels: &Channels) -> Result<Bytes, Memory>
-    ensures { IfOk result (λ text. text ≡ said.diverged_text report.now channels.now) }
-{
-    let mut text = report_lines(alloc, report, channels)?.into_vec();
-    put(&mut text, b"diverged\n")?;
-    Ok(Bytes::from_vec(text))
 }

@@ -1,22 +1,21 @@
 //! The command `dump`.
 
-ghost use Rattle.std.specs.Prelude.{◌≡◌, IfOk, IfErr};
-ghost use Rattle.trace_code.specs.Encoding.{Encodes};
-ghost use Rattle.vidi_bench.specs.vidi_io.Cause.{Rose};
-ghost use Rattle.vidi_bench.specs.vidi_io.Shelf.{Later};
-ghost use Rattle.vidi_bench.specs.AnswerText.{text_of};
-ghost use Rattle.vidi_bench.specs.Ended.{EndsWith, IsAnswered};
+ghost use Rattle.std.specs.Prelude.{◌≡◌, IfOk};
+ghost use Rattle.vidi_answer.specs.vidi_io.Cause.{Rose};
+ghost use Rattle.vidi_answer.specs.vidi_io.Shelf.{Later};
+ghost use Rattle.vidi_answer.specs.AnswerText.{text_of};
+ghost use Rattle.vidi_answer.specs.Ended.{IsAnswered};
 ghost use Rattle.trace_commands.specs.Said as said;
-ghost use Rattle.vidi_bench.specs.Steps.{IsSaid};
-ghost use Rattle.trace_commands.specs.Traces.{Dumps, IsNoTrace};
+ghost use Rattle.vidi_answer.specs.Steps.{IsSaid};
+ghost use Rattle.trace_commands.specs.Traces.{Dumps};
 
 use std::alloc::Global;
-use trace_code::trace_model::Trace;
-use trace_code::vidi_bits::Memory;
-use trace_code::{CodeError, TRACE_LIMIT, decode};
-use vidi_bench::report_text::TraceLines;
-use vidi_bench::vidi_io::Shelf;
-use vidi_bench::{Answer, AnswerText, Ended, Reason, Status, Word, read_file, refused};
+use vidi_answer::report_text::TraceLines;
+use vidi_answer::trace_code::TRACE_LIMIT;
+use vidi_answer::trace_code::trace_model::Trace;
+use vidi_answer::trace_code::vidi_bits::Memory;
+use vidi_answer::vidi_io::Shelf;
+use vidi_answer::{Answer, AnswerText, Ended, Status, Word, read_file, trace_of};
 
 /// What `dump` is answered.
 pub fn dump<S: Shelf>(alloc: Global, trace: &str, shelf: &mut S) -> Result<Answer, Ended>
@@ -29,21 +28,6 @@ pub fn dump<S: Shelf>(alloc: Global, trace: &str, shelf: &mut S) -> Result<Answe
     let file = read_file(alloc, Word::Trace, trace, TRACE_LIMIT, shelf)?;
     let trace = trace_of(alloc, Word::Trace, file.as_slice())?;
     Ok(dumped(alloc, trace)?)
-}
-
-/// The trace of the bytes of this word's file.
-pub fn trace_of(alloc: Global, word: Word, file: &[u8]) -> Result<Trace, Ended>
-    ensures decoded { IfOk result (λ t. Encodes t file.now) }
-    ensures refused { IfErr result (EndsWith (IsNoTrace word file.now)) }
-{
-    match decode(alloc, file) {
-        Ok(trace) => Ok(trace),
-        Err(CodeError::BadTrace { at }) => {
-            let answer = refused(alloc, word, Reason::BadTrace { at })?;
-            Err(Ended::Refused(answer))
-        }
-        Err(CodeError::Memory) => Err(Ended::Memory),
-    }
 }
 
 fn dumped(alloc: Global, trace: Trace) -> Result<Answer, Memory>

@@ -5,8 +5,7 @@ mod comparing;
 mod dumping;
 mod salvaging;
 
-pub use comparing::{compare, diverged, diverged_text};
-pub use dumping::{dump, trace_of};
+pub use comparing::compare;
+pub use dumping::dump;
 pub use salvaging::salvage;
-pub use vidi_bench;
-pub use vidi_bench::{report_text, trace_compare, vidi_io};
+pub use vidi_answer;

@@ -1,23 +1,23 @@
 //! The command `salvage`.
 
 ghost use Rattle.std.specs.Prelude.{◌≡◌, ◌<◌, ◌^◌, ◌++◌, true, Ok, IfOk, IfErr, take};
-ghost use Rattle.trace_code.specs.Encoding.{end_mark};
-ghost use Rattle.trace_code.specs.Salvage.{SalvagesFront};
-ghost use Rattle.vidi_bench.specs.vidi_io.Cause.{Rose};
-ghost use Rattle.vidi_bench.specs.vidi_io.Shelf.{HasStarted, Later, holding};
-ghost use Rattle.vidi_bench.specs.vidi_io.Writing.{IsCutOff, IsKept};
-ghost use Rattle.vidi_bench.specs.AnswerText.{text_of};
-ghost use Rattle.vidi_bench.specs.Ended.{EndsWith, IsStopped, Owes};
+ghost use Rattle.vidi_answer.specs.trace_code.Encoding.{end_mark};
+ghost use Rattle.vidi_answer.specs.trace_code.Salvage.{SalvagesFront};
+ghost use Rattle.vidi_answer.specs.vidi_io.Cause.{Rose};
+ghost use Rattle.vidi_answer.specs.vidi_io.Shelf.{HasStarted, Later, holding};
+ghost use Rattle.vidi_answer.specs.vidi_io.Writing.{IsCutOff, IsKept};
+ghost use Rattle.vidi_answer.specs.AnswerText.{text_of};
+ghost use Rattle.vidi_answer.specs.Ended.{EndsWith, IsStopped, Owes};
 ghost use Rattle.trace_commands.specs.Said as said;
-ghost use Rattle.vidi_bench.specs.Steps.{IsSaid};
+ghost use Rattle.vidi_answer.specs.Steps.{IsSaid};
 ghost use Rattle.trace_commands.specs.Traces.{IsHeaderless, Saves, StopsSaving};
 
 use std::alloc::Global;
-use trace_code::vidi_bits::{Bytes, Memory};
-use trace_code::{CodeError, TRACE_LIMIT, Whole, end_mark, salvage_front};
-use vidi_bench::report_text::{put, put_number};
-use vidi_bench::vidi_io::{Failed, Shelf, write_whole};
-use vidi_bench::{Answer, Ended, Reason, Status, Word, read_file, refused, with_bytes};
+use vidi_answer::report_text::{put, put_number};
+use vidi_answer::trace_code::vidi_bits::{Bytes, Memory};
+use vidi_answer::trace_code::{CodeError, TRACE_LIMIT, Whole, end_mark, salvage_front};
+use vidi_answer::vidi_io::{Failed, Shelf, write_whole};
+use vidi_answer::{Answer, Ended, Reason, Status, Word, read_file, refused, with_bytes};
 
 /// What `salvage` is answered. All memory is taken before the file `out` is started.
 pub fn salvage<S: Shelf>(

@@ -4,11 +4,11 @@ use Rattle.std.specs.Io.KnownBytes.{append_known}
 use Rattle.wrap_command.specs.vidi_io.Shelf.{Files}
 use Rattle.wrap_command.specs.vidi_io.Sink.{AppendsSome}
 use Rattle.wrap_command.specs.vidi_io.Writing.{IsKept}
-use Rattle.wrap_command.specs.vidi_bench.declared.status.Status.{Status}
-use Rattle.wrap_command.specs.vidi_bench.declared.status.Status.TheVariants.{Usage, ReadFault, WriteFault, Refused, Memory}
+use Rattle.wrap_command.specs.vidi_bench.vidi_answer.declared.status.Status.{Status}
+use Rattle.wrap_command.specs.vidi_bench.vidi_answer.declared.status.Status.TheVariants.{Usage, ReadFault, WriteFault, Refused, Memory}
 use Rattle.vidi_commands.specs.Command.{Command, Dump, Check, Run, Record, Replay, Compare, Salvage, Wrap, Sample, IsGiven}
 use Rattle.wrap_command.specs.vidi_bench.Steps.{IsSaid}
-use Rattle.sample_command.specs.trace_commands.Traces.{Dumps, Compares, Saves, StopsSaving}
+use Rattle.trace_commands.specs.Traces.{Dumps, Compares, Saves, StopsSaving}
 use Rattle.sample_command.specs.run_commands.Checks.{Checks}
 use Rattle.sample_command.specs.run_commands.Runs.{Runs}
 use Rattle.sample_command.specs.run_commands.Records.{Records, StopsRecording}

@@ -1,14 +1,14 @@
 use Rattle.std.proofs.Common.{◌≡◌, ℕ, List, inl, inr, ◌∙◌}
 use Rattle.std.specs.Prelude.{IfOk, IfErr}
-use Rattle.trace_commands.specs.vidi_io.Cause.{Rose}
-use Rattle.trace_commands.specs.report_text.declared.reason.Word.TheVariants as words
-use Rattle.trace_commands.specs.vidi_bench.Design.{text_limit}
-use Rattle.trace_commands.specs.vidi_bench.Devices.{IsDevice}
-use Rattle.trace_commands.specs.vidi_bench.Ended.{EndsWith}
-use Rattle.trace_commands.specs.vidi_bench.Reading.{IsUnread}
+use Rattle.vidi_bench.specs.vidi_io.Cause.{Rose}
+use Rattle.vidi_bench.specs.report_text.declared.reason.Word.TheVariants as words
+use Rattle.vidi_bench.specs.Design.{text_limit}
+use Rattle.vidi_bench.specs.Devices.{IsDevice}
+use Rattle.vidi_bench.specs.Ended.{EndsWith}
+use Rattle.vidi_bench.specs.Reading.{IsUnread}
 use Rattle.replay_command.specs.Replays.{IsUnreplayed, RefusedReplay}
-use Rattle.trace_commands.specs.Traces.{trace_limit}
-use Rattle.trace_commands.proofs.vidi_bench_lemmas.Chain.{all-as, passed-as, read-as, rose-since, unread-as}
+use Rattle.vidi_bench.specs.Traces.{trace_limit}
+use Rattle.vidi_bench.proofs.Chain.{all-as, passed-as, read-as, rose-since, unread-as}
 use Rattle.replay_command.proofs.Replayed.{bytes-encode, replayable-said}
 use Rattle.replay_command.proofs.replaying.plan_replay.Goals as goal
 
@@ -67,6 +67,7 @@ returns-clause-planned g c =
     rw c.as_slice-2.ensures at (rw c.as_slice.ensures at c.plan_texts.ensures.device) in
     replayable-said c.args.design.now c.args.map.now c.args.trace.now files design map bytes c.plan_texts.result
     c.in_ok-design.ensures.read map-read trace-read device c.plan_texts.ensures.encodes c.plan_texts.ensures.same
+    c.plan_texts.ensures.no_reset
 
 pub returns-clause-encodes : goal.returns-clause-encodes
 returns-clause-encodes g c = bytes-encode c.in_ok-bytes.bytes c.plan_texts.result c.plan_texts.ensures.bytes c.plan_texts.ensures.encodes

@@ -1,9 +1,9 @@
-use Rattle.trace_commands.specs.vidi_bench.Devices.{Wiring}
-use Rattle.trace_commands.specs.vidi_bench.Ended.{EndsWith}
+use Rattle.vidi_bench.specs.Devices.{Wiring}
+use Rattle.vidi_bench.specs.Ended.{EndsWith}
 use Rattle.replay_command.specs.Replays.{RefusedReplay, RefusedTrace}
-use Rattle.trace_commands.specs.vidi_bench.Steps.{Never}
-use Rattle.trace_commands.proofs.vidi_bench_lemmas.Chain.{passed-as}
-use Rattle.trace_commands.proofs.vidi_bench_lemmas.Wired.{never-wired, wired-then}
+use Rattle.vidi_bench.specs.Steps.{Never}
+use Rattle.vidi_bench.proofs.Chain.{passed-as}
+use Rattle.vidi_bench.proofs.Wired.{never-wired, wired-then}
 use Rattle.replay_command.proofs.replaying.plan_texts.Goals as goal
 
 pub returns-in_err-device-clause-refused : goal.returns-in_err-device-clause-refused

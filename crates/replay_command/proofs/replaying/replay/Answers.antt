@@ -1,10 +1,10 @@
 use Rattle.std.proofs.Common.{ℕ, List, inl}
-use Rattle.trace_commands.specs.vidi_io.Cause.{Rose}
-use Rattle.trace_commands.specs.vidi_io.Shelf.{HasStarted}
-use Rattle.trace_commands.specs.vidi_io.Writing.{IsKept}
-use Rattle.trace_commands.proofs.vidi_io_lemmas.Cut.{started-since}
+use Rattle.vidi_bench.specs.vidi_io.Cause.{Rose}
+use Rattle.vidi_bench.specs.vidi_io.Shelf.{HasStarted}
+use Rattle.vidi_bench.specs.vidi_io.Writing.{IsKept}
+use Rattle.vidi_bench.proofs.vidi_io_lemmas.Cut.{started-since}
 use Rattle.replay_command.specs.Replays.{IsUnreplayed, Replays, StopsReplaying}
-use Rattle.trace_commands.proofs.vidi_bench_lemmas.Chain.{passed-owed, rose-since}
+use Rattle.vidi_bench.proofs.Chain.{passed-owed, rose-since}
 use Rattle.replay_command.proofs.Replayed.{replayed-owed}
 use Rattle.replay_command.proofs.replaying.replay.Goals as goal
 

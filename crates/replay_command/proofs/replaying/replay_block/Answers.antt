@@ -1,5 +1,5 @@
 use Rattle.std.proofs.Common.{[]}
-use Rattle.run_commands.proofs.Filed.{if-ends}
+use Rattle.vidi_bench.proofs.Chain.{if-ends}
 use Rattle.replay_command.proofs.replaying.replay_block.Goals as goal
 
 pub returns : goal.returns

@@ -1,7 +1,7 @@
 use Rattle.std.proofs.Common.{subst}
 use Rattle.net_design.specs.declared.design.Design.{Design}
 use Rattle.replay_run.specs.Replaying.{EndsAs}
-use Rattle.run_commands.proofs.Filed.{if-ends}
+use Rattle.vidi_bench.proofs.Chain.{if-ends}
 use Rattle.replay_command.proofs.replaying.replay_sim.Goals as goal
 
 pub returns : goal.returns

@@ -1,8 +1,8 @@
 use Rattle.std.proofs.Common.{◌≡◌, ℕ, List, sym, subst, ◌∙◌}
 use Rattle.replay_run.specs.trace_model.Recording.{trace_of}
 use Rattle.replay_run.specs.trace_code.Encoding.{Encodes}
-use Rattle.trace_commands.specs.vidi_io.Shelf.{HasStarted}
-use Rattle.trace_commands.specs.vidi_io.Writing.{IsCutOff}
+use Rattle.vidi_bench.specs.vidi_io.Shelf.{HasStarted}
+use Rattle.vidi_bench.specs.vidi_io.Writing.{IsCutOff}
 use Rattle.replay_command.proofs.replaying.replayed.Goals as goal
 
 pub told-requires-clause-written : goal.told-requires-clause-written

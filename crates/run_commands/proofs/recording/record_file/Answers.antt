@@ -1,6 +1,7 @@
 use Rattle.std.proofs.Common.{Err, ap, ◌∙◌}
 use Rattle.vidi_recorder.specs.Course.{course}
-use Rattle.run_commands.proofs.Filed.{frame, fresh-over, ends-in-file, fails-in-file, if-ends, if-fails, later-as}
+use Rattle.vidi_bench.proofs.Chain.{if-ends, if-fails}
+use Rattle.run_commands.proofs.Filed.{frame, fresh-over, ends-in-file, fails-in-file, later-as}
 use Rattle.run_commands.proofs.recording.record_file.Goals as goal
 
 pub returns-clause-ended : goal.returns-clause-ended

@@ -4,7 +4,7 @@ use Rattle.bench_run.specs.env_script.ScriptOffer.{script_offer}
 use Rattle.vidi_recorder.specs.vidi_io.Shelf.{HasStarted}
 use Rattle.vidi_recorder.specs.Course.{course}
 use Rattle.run_commands.specs.Recorded.{FileEnds, FileFails}
-use Rattle.run_commands.proofs.Filed.{if-ends, if-fails}
+use Rattle.vidi_bench.proofs.Chain.{if-ends, if-fails}
 use Rattle.run_commands.proofs.recording.record_sim.Goals as goal
 
 pub returns-clause-ended : goal.returns-clause-ended

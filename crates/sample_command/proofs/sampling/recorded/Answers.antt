@@ -1,6 +1,6 @@
 use Rattle.replay_command.specs.vidi_io.Entries.{files_of}
 use Rattle.replay_command.specs.vidi_io.MemShelf.{entries}
-use Rattle.replay_command.specs.run_commands.Records.{course_of}
+use Rattle.run_commands.specs.Records.{course_of}
 use Rattle.sample_command.proofs.Sampled.{whole-traced}
 use Rattle.sample_command.proofs.sampling.recorded.Goals as goal
 

@@ -35,6 +35,11 @@ returns c =
     inr (
       v,
       c.in_ok-trace.trace,
-      record { device = device; encodes = c.in_ok-trace.ensures.encodes; same = c.in_ok-trace.ensures.same },
+      record {
+        device = device;
+        encodes = c.in_ok-trace.ensures.encodes;
+        same = c.in_ok-trace.ensures.same;
+        no_reset = c.in_ok-trace.ensures.no_reset;
+      },
       c.in_ok-answer.ensures,
     )

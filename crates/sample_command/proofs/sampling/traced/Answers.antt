@@ -1,5 +1,5 @@
 use Rattle.std.proofs.Common.{inl}
-use Rattle.replay_command.specs.run_commands.Records.{course_of, RefusedPlanned}
+use Rattle.run_commands.specs.Records.{course_of, RefusedPlanned}
 use Rattle.sample_command.specs.Sampled.{IsUnstable}
 use Rattle.sample_command.specs.Samples.{IsUntraced}
 use Rattle.replay_command.proofs.vidi_bench_lemmas.Chain.{all-as, passed-as}

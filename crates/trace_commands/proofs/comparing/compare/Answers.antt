@@ -1,10 +1,10 @@
 use Rattle.std.proofs.Common.{ℕ, List, inl, inr}
-use Rattle.vidi_bench.specs.vidi_io.Cause.{Rose}
-use Rattle.vidi_bench.specs.report_text.declared.reason.Word.TheVariants as words
-use Rattle.vidi_bench.specs.Ended.{IsAnswered}
-use Rattle.vidi_bench.specs.Reading.{IsUnread}
+use Rattle.vidi_answer.specs.vidi_io.Cause.{Rose}
+use Rattle.vidi_answer.specs.report_text.declared.reason.Word.TheVariants as words
+use Rattle.vidi_answer.specs.Ended.{IsAnswered}
+use Rattle.vidi_answer.specs.Reading.{IsUnread}
 use Rattle.trace_commands.specs.Traces.{trace_limit, Compares, ComparedFiles}
-use Rattle.vidi_bench.proofs.Chain.{all-answered, answered-as, read-as, rose-since, unread-as}
+use Rattle.vidi_answer.proofs.Chain.{all-answered, answered-as, read-as, rose-since, unread-as}
 use Rattle.trace_commands.proofs.comparing.compare.Goals as goal
 
 pub returns-in_err-second-clause-answered : goal.returns-in_err-second-clause-answered

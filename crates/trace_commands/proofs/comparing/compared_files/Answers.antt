@@ -1,7 +1,7 @@
 use Rattle.std.proofs.Common.{inl, inr}
-use Rattle.vidi_bench.specs.report_text.declared.reason.Word.TheVariants as words
+use Rattle.vidi_answer.specs.report_text.declared.reason.Word.TheVariants as words
 use Rattle.trace_commands.specs.Traces.{ComparedFiles, IsNoTrace}
-use Rattle.vidi_bench.proofs.Chain.{answered-as}
+use Rattle.vidi_answer.proofs.Chain.{answered-as}
 use Rattle.trace_commands.proofs.comparing.compared_files.Goals as goal
 
 pub returns-in_err-other : goal.returns-in_err-other

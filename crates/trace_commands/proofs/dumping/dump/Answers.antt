@@ -1,9 +1,9 @@
 use Rattle.std.proofs.Common.{ℕ, List, inl, inr}
-use Rattle.vidi_bench.specs.vidi_io.Cause.{Rose}
-use Rattle.vidi_bench.specs.report_text.declared.reason.Word.TheVariants as words
-use Rattle.vidi_bench.specs.Ended.{EndsWith}
+use Rattle.vidi_answer.specs.vidi_io.Cause.{Rose}
+use Rattle.vidi_answer.specs.report_text.declared.reason.Word.TheVariants as words
+use Rattle.vidi_answer.specs.Ended.{EndsWith}
 use Rattle.trace_commands.specs.Traces.{Dumps, IsNoTrace}
-use Rattle.vidi_bench.proofs.Chain.{answered-as}
+use Rattle.vidi_answer.proofs.Chain.{answered-as}
 use Rattle.trace_commands.proofs.dumping.dump.Goals as goal
 
 pub returns-in_err-trace-clause-answered : goal.returns-in_err-trace-clause-answered

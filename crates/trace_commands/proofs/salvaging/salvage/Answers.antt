@@ -1,14 +1,14 @@
 use Rattle.std.proofs.Common.{ℕ, List, Ok, inl, inr}
-use Rattle.vidi_bench.specs.vidi_io.Cause.{Rose}
-use Rattle.vidi_bench.specs.vidi_io.Shelf.{HasStarted}
-use Rattle.vidi_bench.specs.vidi_io.Writing.{IsKept}
-use Rattle.vidi_bench.proofs.vidi_io_lemmas.Cut.{started-since}
-use Rattle.vidi_bench.specs.report_text.declared.reason.Word.TheVariants as words
-use Rattle.trace_code.specs.Salvage.{SalvagesFront}
-use Rattle.vidi_bench.specs.Ended.{EndsWith}
-use Rattle.vidi_bench.specs.Reading.{IsUnread}
+use Rattle.vidi_answer.specs.vidi_io.Cause.{Rose}
+use Rattle.vidi_answer.specs.vidi_io.Shelf.{HasStarted}
+use Rattle.vidi_answer.specs.vidi_io.Writing.{IsKept}
+use Rattle.vidi_answer.proofs.vidi_io_lemmas.Cut.{started-since}
+use Rattle.vidi_answer.specs.report_text.declared.reason.Word.TheVariants as words
+use Rattle.vidi_answer.specs.trace_code.Salvage.{SalvagesFront}
+use Rattle.vidi_answer.specs.Ended.{EndsWith}
+use Rattle.vidi_answer.specs.Reading.{IsUnread}
 use Rattle.trace_commands.specs.Traces.{trace_limit, IsHeaderless, Saves, StopsSaving}
-use Rattle.vidi_bench.proofs.Chain.{passed-owed, rose-since}
+use Rattle.vidi_answer.proofs.Chain.{passed-owed, rose-since}
 use Rattle.trace_commands.proofs.Saved.{saved-owed}
 use Rattle.trace_commands.proofs.salvaging.salvage.Goals as goal
 

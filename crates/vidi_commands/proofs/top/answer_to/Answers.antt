@@ -9,7 +9,7 @@ use Rattle.sample_command.specs.run_commands.Records.{Records, StopsRecording}
 use Rattle.sample_command.specs.replay_command.Replays.{Replays, StopsReplaying}
 use Rattle.sample_command.specs.run_commands.Runs.{Runs}
 use Rattle.sample_command.specs.Samples.{Samples}
-use Rattle.sample_command.specs.trace_commands.Traces.{Compares, Dumps, Saves, StopsSaving}
+use Rattle.trace_commands.specs.Traces.{Compares, Dumps, Saves, StopsSaving}
 use Rattle.wrap_command.specs.Wraps.{StopsWrapping, Wraps}
 use Rattle.wrap_command.proofs.vidi_bench_lemmas.Chain.{owed, owed-as}
 use Rattle.vidi_commands.proofs.top.answer_to.Goals as goal

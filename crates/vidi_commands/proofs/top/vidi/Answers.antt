@@ -4,7 +4,7 @@ use Rattle.wrap_command.specs.vidi_io.Shelf.{HasStarted}
 use Rattle.wrap_command.specs.vidi_bench.AnswerText.{text_of}
 use Rattle.vidi_commands.specs.Answer.{Stops}
 use Rattle.vidi_commands.specs.Said.{memory_line}
-use Rattle.wrap_command.specs.vidi_bench.declared.status.Status.TheVariants.{Memory}
+use Rattle.wrap_command.specs.vidi_bench.vidi_answer.declared.status.Status.TheVariants.{Memory}
 use Rattle.vidi_commands.proofs.Saying.{said, quietly}
 use Rattle.vidi_commands.proofs.Starting.{answers-none, answers-once, stopped-once}
 use Rattle.vidi_commands.proofs.top.vidi.Goals as goal
