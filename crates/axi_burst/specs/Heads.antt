@@ -1,6 +1,6 @@
 -- The y-th address with an ID, one after the other: what a pass needs that is linear in the trace.
 use Rattle.std.specs.Prelude.{◌≡◌, ℕ, suc, ◌+◌, ◌==◌, ◌&&◌, if◌then◌else◌, nat_le, List, [], ◌∷◌, slice_get, Option, None, Some}
-use Rattle.axi_burst.specs.Transfers.{Address}
+use Rattle.axi_burst.specs.declared.transfers.Address.{Address}
 use Rattle.axi_burst.specs.Bursts.{numbers_with}
 
 -- of addresses numbered from n on, the first with this ID from number k on

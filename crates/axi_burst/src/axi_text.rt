@@ -1,6 +1,7 @@
 //! What an AXI file says.
 
 ghost use Rattle.std.specs.Prelude.{◌≡◌, true};
+ghost use Rattle.axi_burst.specs.Forms.{is_beat};
 ghost use Rattle.axi_burst.specs.Kinds.{is_whole};
 
 use vidi_lines::vidi_bits::{Items, Name, Numbers};
@@ -53,11 +54,12 @@ pub struct AxiLine {
 /// A list of lines that have words, in the order of the text.
 pub type AxiLines = Items<AxiLine>;
 
-/// An AXI file that was read: the data bus's bytes, and what the lines behind the first one with words say. The channels of writes
-/// are all there or all absent, those of reads likewise, and some are there.
+/// An AXI file that was read: the data bus's bytes, a power of two from 1 to 128, and what the lines behind the first one with words say. The
+/// channels of writes are all there or all absent, those of reads likewise, and some are there.
 #[derive(Drop)]
 pub struct AxiText {
     pub beat: u32,
     pub lines: AxiLines,
+    ghost power: { is_beat beat ≡ true },
     ghost whole: { is_whole lines ≡ true },
 }

@@ -1,4 +1,4 @@
-//! Why an AXI file is refused.
+//! Why an AXI file is refused, and why a trace has no bursts.
 
 ghost use Rattle.std.specs.Prelude.{◌≡◌};
 
@@ -37,5 +37,39 @@ impl From<AllocError> for AxiError {
 
     fn from(_error: AllocError) -> AxiError {
         AxiError::Memory
+    }
+}
+
+/// Why a trace has no bursts.
+#[derive(Clone, Copy, Debug, PartialEq, Eq, Error)]
+pub enum BurstError {
+    /// The first rule that is broken, and the number among its channel's transactions of the one that breaks it.
+    #[error("broken rule {rule} {channel} {index}")]
+    Broken {
+        rule: u32,
+        channel: usize,
+        index: u32,
+    },
+    #[error("out of memory")]
+    Memory,
+}
+
+impl From<Memory> for BurstError {
+    ghost use Rattle.axi_burst.specs.declared.error.BurstError.{BurstError};
+
+    ghost from_gives = { λ _ e. e ≡ BurstError.Memory };
+
+    fn from(_error: Memory) -> BurstError {
+        BurstError::Memory
+    }
+}
+
+impl From<AllocError> for BurstError {
+    ghost use Rattle.axi_burst.specs.declared.error.BurstError.{BurstError};
+
+    ghost from_gives = { λ _ e. e ≡ BurstError.Memory };
+
+    fn from(_error: AllocError) -> BurstError {
+        BurstError::Memory
     }
 }

@@ -55,7 +55,8 @@ const FAULTY: [(&str, u32); 16] = [
     ),
 ];
 
-fn channel(alloc: Global, row: &(Dir, &str, &[u8])) -> Result<Channel, AxiError> {
+/// A channel of this direction, name and widths.
+pub(crate) fn channel(alloc: Global, row: &(Dir, &str, &[u8])) -> Result<Channel, AxiError> {
     let name = copied(alloc, row.1.as_bytes())?;
     let widths: Bytes = copied(alloc, row.2)?;
     Ok(Channel {

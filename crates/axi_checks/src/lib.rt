@@ -4,4 +4,6 @@
 #[cfg(test)]
 mod bind_tests;
 #[cfg(test)]
+mod burst_tests;
+#[cfg(test)]
 mod read_tests;

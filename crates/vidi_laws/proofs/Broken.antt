@@ -7,21 +7,23 @@ use Rattle.std.proofs.lemmas.List.Elements.{All-take}
 use Rattle.vidi_commands.specs.trace_model.declared.packet.Packet.{Packet}
 use Rattle.vidi_commands.specs.trace_model.declared.trace.Trace.{Trace}
 use Rattle.vidi_commands.specs.trace_model.Packet.{IsPacket}
-use Rattle.vidi_commands.proofs.trace_model_lemmas.FlightLemmas.{alternates-take}
+use Rattle.vidi_commands.proofs.trace_model_lemmas.EpochLemmas.{epochs_alternate, throughout_from, throughout-take}
 use Rattle.vidi_commands.specs.trace_model.Recording.{trace_of}
 use Rattle.vidi_commands.specs.trace_code.declared.error.CodeError.{CodeError}
 use Rattle.vidi_commands.specs.trace_code.declared.error.CodeError.TheVariants as errors
 use Rattle.vidi_commands.specs.trace_code.Decoding.{HasNoHeader}
+use Rattle.vidi_commands.proofs.trace_code_lemmas.NoReset.{no-reset_front}
 use Rattle.vidi_commands.specs.trace_code.Encoding.{HasEncoding, encode, end_mark, header_bytes, packet_bytes}
 use Rattle.vidi_commands.specs.trace_code.Salvage.{front, FrontIsSalvaged, LieWhole, Salvages}
 use Rattle.vidi_commands.specs.vidi_io.Shelf.{Files, HasStarted, holding}
 use Rattle.vidi_commands.specs.report_text.declared.reason.Word.TheVariants as words
-use Rattle.vidi_commands.specs.vidi_bench.declared.status.Status.{Status}
+use Rattle.vidi_commands.specs.vidi_bench.vidi_answer.declared.status.Status.{Status}
 use Rattle.vidi_commands.specs.vidi_bench.Reading.{IsRead}
 use Rattle.vidi_commands.specs.Said.{salvaged_line}
+use Rattle.vidi_commands.specs.run_commands.Records.{course_of}
 use Rattle.vidi_commands.specs.trace_commands.Traces.{trace_limit, IsHeaderless, Saves}
 use Rattle.vidi_laws.specs.Headline.{BrokenRecordingIsSalvaged, IsBrokenOff, KeepsWhole, SalvagedTraceIsReplayable}
-use Rattle.vidi_laws.proofs.Headline.{read-there, recorded-short, replayable-there, run-kept}
+use Rattle.vidi_laws.proofs.Headline.{read-there, recorded-no_reset, recorded-short, replayable-there, run-kept}
 use Rattle.vidi_laws.proofs.OneEnding.{one-read, reading-apart}
 use Rattle.vidi_laws.proofs.OneSalvaged.{found, wanting, no_memory, same_found}
 
@@ -39,7 +41,8 @@ front-encodes t encodes k = record {
   table = encodes.table;
   well_formed = record {
     packets = All-take (IsPacket t.channels) k t.packets encodes.well_formed.packets;
-    alternate = alternates-take k t.packets encodes.well_formed.alternate;
+    alternate =
+        epochs_alternate (take k t.packets) (throughout-take k t.packets (throughout_from t.packets encodes.well_formed.alternate));
   };
   few =
       let cut = length-take k t.packets in
@@ -130,4 +133,4 @@ salvaged-replayable design map script stalls files b plan planned rows stop run 
     let small : length (encode t) ≤ trace_limit = recorded-short design map script stalls (Some files) b plan planned rows stop run in
     let l : length (encode (front count t)) ≤ length (encode t) = front-short t count in
     replayable-there design map script stalls files b plan planned (front count t) (front-encodes t encodes count) refl
-    (omega (arith, small, l)) trace now same same' there
+    (no-reset_front count t.packets (recorded-no_reset (course_of b plan) rows stop run)) (omega (arith, small, l)) trace now same same' there

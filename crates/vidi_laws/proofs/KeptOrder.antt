@@ -1,7 +1,7 @@
 -- What keeps the order of a trace has no finding against it that breaks the order.
 use Rattle.std.proofs.Common.{◌≡◌, ℕ, zero, suc, ◌+◌, ◌<◌, ◌≤◌, Bool, true, false, cond, List, [], ◌∷◌, ◌++◌, Some, length, take, map}
 use Rattle.std.proofs.Common.{All, refl, sym, ap, subst, ◌∙◌, ⊎_elim, arith}
-use Rattle.std.specs.Prelude.{not, nat_eq, nat_lt, slice_get}
+use Rattle.std.specs.Prelude.{min, not, nat_eq, nat_lt, slice_get}
 use Rattle.std.specs.Cmp.Lexicographic.{other_text}
 use Rattle.std.specs.List.{enumerate_from, filter, flat_map, list_any, range_with_len, zip}
 use Rattle.std.proofs.lemmas.Bool.{cases_Bool, cases_lt, false≢true, le-ltb}
@@ -18,13 +18,17 @@ use Rattle.vidi_commands.specs.trace_model.declared.event.Kind.TheVariants.{Star
 use Rattle.vidi_commands.specs.trace_model.declared.packet.Packet.{Packet}
 use Rattle.vidi_commands.specs.trace_model.Clock.{clock, Covers}
 use Rattle.vidi_commands.specs.trace_model.Counting.{IsNth}
+use Rattle.vidi_commands.specs.trace_model.Epoch.{epoch, resets}
 use Rattle.vidi_commands.specs.trace_model.Packet.{content_of, count, does}
 use Rattle.vidi_commands.proofs.trace_model_lemmas.CountingLemmas.{count-cons, nth, nth-below, nth-unique}
+use Rattle.vidi_commands.specs.trace_code.NoReset.{HasNoReset}
+use Rattle.vidi_commands.proofs.trace_code_lemmas.NoReset.{epoch-whole}
 use Rattle.vidi_commands.specs.trace_compare.declared.report.Finding.{Finding}
 use Rattle.vidi_commands.specs.trace_compare.declared.report.What.{What}
-use Rattle.vidi_commands.specs.trace_compare.declared.report.What.TheVariants.{Differs}
-use Rattle.vidi_commands.specs.trace_compare.Findings.{different, differing, differs, early, early_marks, early_ones, events_from, extra, findings_on}
-use Rattle.vidi_commands.specs.trace_compare.Findings.{found, in_both, is_early, marked, missing, only_one}
+use Rattle.vidi_commands.specs.trace_compare.declared.report.What.TheVariants.{Differs, ExtraReset, MissingReset}
+use Rattle.vidi_commands.specs.trace_compare.Findings.{different, differing, differs, early, early_marks, early_ones, epochs_in_both, events_from}
+use Rattle.vidi_commands.specs.trace_compare.Findings.{extra, finding_of, findings, findings_in, findings_on, found, in_both, is_early, marked, missing}
+use Rattle.vidi_commands.specs.trace_compare.Findings.{only_one}
 use Rattle.vidi_commands.specs.run_model.Laws.{controls, AreInOrder}
 use Rattle.vidi_laws.specs.Headline.{breaks_order, KeepsOrder}
 
@@ -100,13 +104,12 @@ same-content xs ys same = ⊎_elim
     (cases_Bool (pointwise nat_eq xs ys))
 
 -- ---- findings
-found-keeps : (channels : List Channel) (is_one : Bool) (c : ℕ) (what : What) (index n : ℕ)
+found-keeps : (channels : List Channel) (is_one : Bool) (e c : ℕ) (what : What) (index n : ℕ)
     → (is_one ≡ true → (x : Channel) → slice_get channels c ≡ Some x → breaks_order x.dir what ≡ false)
-    → All (KeepsOrder channels) (found is_one c what index n)
-found-keeps channels true c what index n keeps =
-    All-cons (KeepsOrder channels) (record { channel = c; what = what; index = index; count = n }) [] (keeps refl)
-    (All-nil (KeepsOrder channels))
-found-keeps channels false c what index n keeps = All-nil (KeepsOrder channels)
+    → All (KeepsOrder channels) (found is_one e c what index n)
+found-keeps channels true e c what index n keeps =
+    All-cons (KeepsOrder channels) (finding_of e c what index n) [] (keeps refl) (All-nil (KeepsOrder channels))
+found-keeps channels false e c what index n keeps = All-nil (KeepsOrder channels)
 
 each-keeps : (channels : List Channel) (f : ℕ → List Finding) (cs : List ℕ) → ((c : ℕ) → All (KeepsOrder channels) (f c))
     → All (KeepsOrder channels) (flat_map f cs)
@@ -122,7 +125,6 @@ missing-keeps Outward Start = refl
 missing-keeps Outward End = refl
 missing-keeps Outward Reset = refl
 
--- a finding is on a start or an end
 abbrev is_reset : Kind → Bool
 is_reset Reset = true
 is_reset kind = false
@@ -201,30 +203,57 @@ module _ (channels : List Channel) (a b : List Packet) (order : AreInOrder chann
         absurd (not-above 0 (marked (early_marks (length channels) End c a b)) (omega (arith, none)) holds)
     early-keeps Reset dir event is holds = absurd (false≢true (sym event))
 
-  only-keeps : (kind : Kind) → is_reset kind ≡ false → (c : ℕ) → All (KeepsOrder channels) (only_one kind c a b)
-  only-keeps kind event c =
-      All-append (KeepsOrder channels) (found (nat_lt (count kind c b) (count kind c a)) c (missing kind) (count kind c b) 1)
-      (found (nat_lt (count kind c a) (count kind c b)) c (extra kind) (count kind c a) 1)
-      (found-keeps channels (nat_lt (count kind c b) (count kind c a)) c (missing kind) (count kind c b) 1
-      (λ holds x at. missing-keeps x.dir kind))
-      (found-keeps channels (nat_lt (count kind c a) (count kind c b)) c (extra kind) (count kind c a) 1
-      (λ holds x at. extra-keeps c x at kind x.dir event refl holds))
+  -- ---- those of an epoch
+  module _ (e : ℕ) where
+    only-keeps : (kind : Kind) → is_reset kind ≡ false → (c : ℕ) → All (KeepsOrder channels) (only_one e kind c a b)
+    only-keeps kind event c =
+        All-append (KeepsOrder channels) (found (nat_lt (count kind c b) (count kind c a)) e c (missing kind) (count kind c b) 1)
+        (found (nat_lt (count kind c a) (count kind c b)) e c (extra kind) (count kind c a) 1)
+        (found-keeps channels (nat_lt (count kind c b) (count kind c a)) e c (missing kind) (count kind c b) 1
+        (λ holds x at. missing-keeps x.dir kind))
+        (found-keeps channels (nat_lt (count kind c a) (count kind c b)) e c (extra kind) (count kind c a) 1
+        (λ holds x at. extra-keeps c x at kind x.dir event refl holds))
 
-  earlies-keep : (kind : Kind) → is_reset kind ≡ false → (c : ℕ) → All (KeepsOrder channels) (early_ones (length channels) kind c a b)
-  earlies-keep kind event c = found-keeps channels (nat_lt 0 (marked (early_marks (length channels) kind c a b))) c (early kind) _ _
-      (λ holds x at. early-keeps c x at kind x.dir event refl holds)
+    earlies-keep : (kind : Kind) → is_reset kind ≡ false → (c : ℕ) → All (KeepsOrder channels) (early_ones e (length channels) kind c a b)
+    earlies-keep kind event c = found-keeps channels (nat_lt 0 (marked (early_marks (length channels) kind c a b))) e c (early kind) _ _
+        (λ holds x at. early-keeps c x at kind x.dir event refl holds)
 
-  channel-keeps : (c : ℕ) → All (KeepsOrder channels) (findings_on channels a b c)
-  channel-keeps c =
-      let P = KeepsOrder channels in
-      let ends = early_ones (length channels) End c a b in
-      let earlies = early_ones (length channels) Start c a b ++ ends in
-      let others = only_one End c a b ++ earlies in
-      All-append P (different channels c a b) (only_one Start c a b ++ others)
-      (found-keeps channels (nat_lt 0 (marked (differing channels c a b))) c Differs _ _ (λ holds x at. differs-keeps c x at x.dir refl holds))
-      (All-append P (only_one Start c a b) others (only-keeps Start refl c)
-      (All-append P (only_one End c a b) earlies (only-keeps End refl c)
-      (All-append P (early_ones (length channels) Start c a b) ends (earlies-keep Start refl c) (earlies-keep End refl c))))
+    channel-keeps : (c : ℕ) → All (KeepsOrder channels) (findings_on e channels a b c)
+    channel-keeps c =
+        let P = KeepsOrder channels in
+        let ends = early_ones e (length channels) End c a b in
+        let earlies = early_ones e (length channels) Start c a b ++ ends in
+        let others = only_one e End c a b ++ earlies in
+        All-append P (different e channels c a b) (only_one e Start c a b ++ others)
+        (found-keeps channels (nat_lt 0 (marked (differing channels c a b))) e c Differs _ _ (λ holds x at. differs-keeps c x at x.dir refl holds))
+        (All-append P (only_one e Start c a b) others (only-keeps Start refl c)
+        (All-append P (only_one e End c a b) earlies (only-keeps End refl c)
+        (All-append P (early_ones e (length channels) Start c a b) ends (earlies-keep Start refl c) (earlies-keep End refl c))))
 
-  pub findings-keep : All (KeepsOrder channels) (flat_map (findings_on channels a b) (range_with_len 0 (length channels)))
-  findings-keep = each-keeps channels (findings_on channels a b) (range_with_len 0 (length channels)) channel-keeps
+    epoch-keeps : All (KeepsOrder channels) (flat_map (findings_on e channels a b) (range_with_len 0 (length channels)))
+    epoch-keeps = each-keeps channels (findings_on e channels a b) (range_with_len 0 (length channels)) channel-keeps
+
+-- ---- resets
+resets-keep : (channels : List Channel) (a b : List Packet) → HasNoReset b → All (KeepsOrder channels) (only_one 0 Reset 0 a b)
+resets-keep channels a b none =
+    All-append (KeepsOrder channels) (found (nat_lt (resets b) (resets a)) 0 0 MissingReset (resets b) 1)
+    (found (nat_lt (resets a) (resets b)) 0 0 ExtraReset (resets a) 1)
+    (found-keeps channels (nat_lt (resets b) (resets a)) 0 0 MissingReset (resets b) 1 (λ holds x at. missing-keeps x.dir Reset))
+    (found-keeps channels (nat_lt (resets a) (resets b)) 0 0 ExtraReset (resets a) 1
+    (λ holds x at. absurd (not-above (resets a) (resets b) (omega (arith, none)) holds)))
+
+-- ---- without resets there is one epoch
+one-epoch : (a b : List Packet) → HasNoReset a → HasNoReset b → range_with_len 0 (epochs_in_both a b) ≡ 0 ∷ []
+one-epoch a b first second = ap (λ (n : ℕ). range_with_len 0 (min n (resets b) + 1)) first ∙ ap (λ (n : ℕ). range_with_len 0 (min 0 n + 1)) second
+
+pub findings-keep : (channels : List Channel) (a b : List Packet) → HasNoReset a → HasNoReset b → AreInOrder channels a b
+    → All (KeepsOrder channels) (findings (record { channels = channels; packets = a }) (record { channels = channels; packets = b }))
+findings-keep channels a b first second order =
+    let P = KeepsOrder channels in
+    let here : AreInOrder channels (epoch 0 a) (epoch 0 b) = subst (λ (ps : List Packet). AreInOrder channels ps (epoch 0 b))
+    (sym (epoch-whole a first)) (subst (AreInOrder channels a) (sym (epoch-whole b second)) order) in
+    let keeps = epoch-keeps channels (epoch 0 a) (epoch 0 b) here 0 in
+    All-append P (flat_map (findings_in channels a b) (range_with_len 0 (epochs_in_both a b))) (only_one 0 Reset 0 a b)
+    (subst (λ (es : List ℕ). All P (flat_map (findings_in channels a b) es)) (sym (one-epoch a b first second))
+    (All-append P (findings_in channels a b 0) [] keeps (All-nil P)))
+    (resets-keep channels a b second)

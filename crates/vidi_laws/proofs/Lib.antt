@@ -20,6 +20,7 @@ pub mod OneAnswer
 pub mod Headline
 pub mod Broken
 pub mod OneRun
+pub mod Gaps
 pub mod KeptOrder
 pub mod Faithful
 pub mod SameWrap

@@ -3,7 +3,7 @@ use Rattle.std.proofs.Common.{◌≡◌, ℕ, Bool, List, Option, Some, inl, inr
 use Rattle.vidi_commands.specs.trace_code.Decoding.{OnePlace, OneReading}
 use Rattle.vidi_commands.specs.trace_code.Salvage.{OneSalvage}
 use Rattle.vidi_commands.specs.vidi_io.Shelf.{Files, HasStarted}
-use Rattle.vidi_commands.specs.vidi_bench.declared.status.Status.{Status}
+use Rattle.vidi_commands.specs.vidi_bench.vidi_answer.declared.status.Status.{Status}
 use Rattle.vidi_commands.specs.Command.{Command, Dump, Check, Run, Record, Replay, Compare, Salvage, Wrap, Sample}
 use Rattle.vidi_commands.specs.Answer.{Does}
 use Rattle.vidi_laws.specs.OneAnswer.{OneAnswer}

@@ -19,8 +19,8 @@ use Rattle.vidi_commands.specs.report_text.declared.reason.Word.TheVariants as w
 use Rattle.vidi_commands.specs.report_text.declared.reason.Reason.{Reason}
 use Rattle.vidi_commands.specs.report_text.declared.reason.Reason.TheVariants.{Word, Deep, Item, Loop}
 use Rattle.vidi_commands.specs.report_text.Reason.{reason_line}
-use Rattle.vidi_commands.specs.vidi_bench.declared.status.Status.{Status}
-use Rattle.vidi_commands.specs.vidi_bench.declared.status.Status.TheVariants.{Done, Refused}
+use Rattle.vidi_commands.specs.vidi_bench.vidi_answer.declared.status.Status.{Status}
+use Rattle.vidi_commands.specs.vidi_bench.vidi_answer.declared.status.Status.TheVariants.{Done, Refused}
 use Rattle.vidi_commands.specs.vidi_bench.Reasons.{elab_reason}
 use Rattle.vidi_commands.specs.vidi_bench.Steps.{Ending, IsRefusal, IsSaid, Step}
 use Rattle.vidi_commands.specs.vidi_bench.Design.{text_limit, line_of, IsNoWord, IsTooDeep, IsNoFile, IsFile, IsNoTree, IsNoText, Spells}

@@ -3,7 +3,7 @@ use Rattle.std.proofs.Common.{List, ℕ, Some}
 use Rattle.vidi_commands.specs.trace_code.Decoding.{OnePlace, OneReading}
 use Rattle.vidi_commands.specs.vidi_io.Shelf.{Files}
 use Rattle.vidi_commands.specs.report_text.declared.reason.Word.TheVariants as words
-use Rattle.vidi_commands.specs.vidi_bench.declared.status.Status.TheVariants.{Done}
+use Rattle.vidi_commands.specs.vidi_bench.vidi_answer.declared.status.Status.TheVariants.{Done}
 use Rattle.vidi_commands.specs.vidi_bench.Steps.{IsSaid}
 use Rattle.vidi_commands.specs.Said.{dump_text}
 use Rattle.vidi_commands.specs.trace_commands.Traces.{trace_limit, Decoding, Dumps}

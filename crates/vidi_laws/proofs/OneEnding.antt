@@ -4,8 +4,8 @@ use Rattle.std.specs.FinMap.{get}
 use Rattle.vidi_commands.specs.vidi_io.Shelf.{Files}
 use Rattle.vidi_commands.specs.report_text.declared.reason.Word.{Word}
 use Rattle.vidi_commands.specs.report_text.declared.reason.Reason.TheVariants.{TooLong}
-use Rattle.vidi_commands.specs.vidi_bench.declared.status.Status.{Status}
-use Rattle.vidi_commands.specs.vidi_bench.declared.status.Status.TheVariants.{ReadFault, Refused}
+use Rattle.vidi_commands.specs.vidi_bench.vidi_answer.declared.status.Status.{Status}
+use Rattle.vidi_commands.specs.vidi_bench.vidi_answer.declared.status.Status.TheVariants.{ReadFault, Refused}
 use Rattle.vidi_commands.specs.report_text.Reason.{reason_line, read_fault_line}
 use Rattle.vidi_commands.specs.vidi_bench.Steps.{Ending, IsSaid, Step}
 use Rattle.vidi_commands.specs.vidi_bench.Reading.{IsUnread, IsRead, Reading}

@@ -10,8 +10,8 @@ use Rattle.vidi_commands.specs.trace_code.Salvage.{Salvages, OneSalvage}
 use Rattle.vidi_commands.specs.vidi_io.Shelf.{Files, holding}
 use Rattle.vidi_commands.specs.report_text.declared.reason.Word.TheVariants as words
 use Rattle.vidi_commands.specs.report_text.declared.reason.Reason.TheVariants.{BadTrace}
-use Rattle.vidi_commands.specs.vidi_bench.declared.status.Status.{Status}
-use Rattle.vidi_commands.specs.vidi_bench.declared.status.Status.TheVariants.{Refused}
+use Rattle.vidi_commands.specs.vidi_bench.vidi_answer.declared.status.Status.{Status}
+use Rattle.vidi_commands.specs.vidi_bench.vidi_answer.declared.status.Status.TheVariants.{Refused}
 use Rattle.vidi_commands.specs.report_text.Reason.{reason_line}
 use Rattle.vidi_commands.specs.Said.{salvaged_line}
 use Rattle.vidi_commands.specs.trace_commands.Traces.{trace_limit, IsUnsaved, IsWhole, Saves}

@@ -1,19 +1,25 @@
 -- Traces that are read, and compared: one answer.
-use Rattle.std.proofs.Common.{◌≡◌, ◌≢◌, ◌⊎◌, ℕ, ◌<◌, List, take, slice_get, inl, inr, ⊎_elim, sym, ap, subst, ◌∙◌}
+use Rattle.std.proofs.Common.{◌≡◌, ◌≢◌, ◌⊎◌, ℕ, ◌<◌, List, take, slice_get, inl, inr, ⊎_elim, sym, ap, subst, ◌∙◌, arith}
 use Rattle.std.proofs.lemmas.Bool.{cases_order}
 use Rattle.vidi_commands.specs.trace_model.declared.channel.Channel.{Channel}
+use Rattle.vidi_commands.specs.trace_model.declared.event.Kind.TheVariants.{Reset}
+use Rattle.vidi_commands.specs.trace_model.declared.packet.Packet.{Packet}
 use Rattle.vidi_commands.specs.trace_model.declared.trace.Trace.{Trace}
-use Rattle.vidi_commands.proofs.trace_model_lemmas.CountingLemmas.{slice_get-take}
+use Rattle.vidi_commands.specs.trace_model.Epoch.{resets}
+use Rattle.vidi_commands.specs.trace_model.Packet.{does}
+use Rattle.vidi_commands.proofs.trace_model_lemmas.CountingLemmas.{nth-below, nth-unique, slice_get-take}
 use Rattle.vidi_commands.specs.trace_code.Encoding.{Encodes}
 use Rattle.vidi_commands.specs.trace_code.Decoding.{OnePlace, OneReading}
+use Rattle.vidi_commands.specs.trace_code.NoReset.{HasNoReset}
 use Rattle.vidi_commands.specs.trace_compare.Findings.{findings}
 use Rattle.vidi_commands.specs.report_text.declared.reason.Word.{Word}
 use Rattle.vidi_commands.specs.report_text.declared.reason.Reason.TheVariants.{BadTrace, OtherChannels}
-use Rattle.vidi_commands.specs.vidi_bench.declared.status.Status.TheVariants.{Done, Refused, Diverged}
+use Rattle.vidi_commands.specs.report_text.declared.reason.Reason.TheVariants as reasons
+use Rattle.vidi_commands.specs.vidi_bench.vidi_answer.declared.status.Status.TheVariants.{Done, Refused, Diverged}
 use Rattle.vidi_commands.specs.report_text.Reason.{reason_line}
 use Rattle.vidi_commands.specs.Said.{diverged_text}
 use Rattle.vidi_commands.specs.vidi_bench.Steps.{Ending, IsRefusal}
-use Rattle.vidi_commands.specs.trace_commands.Traces.{IsNoTrace, Decoding, HasOtherChannels, IsVerdict}
+use Rattle.vidi_commands.specs.vidi_bench.Traces.{IsNoTrace, Decoding, HasOtherChannels, HasReset, IsFirstReset, IsVerdict}
 use Rattle.vidi_laws.proofs.OneEnding.{Same, One, one-said, one-step-by}
 
 -- two tables have one first difference
@@ -35,6 +41,15 @@ pub one-other : (word : Word) (channels others : List Channel) → One (HasOther
 one-other word channels others a b x y (m, same, other, s) (n, same', other', s') =
     one-said (Refused word (OtherChannels m)) (reason_line word (OtherChannels m)) a b x y s
     (subst (λ (k : ℕ). IsRefusal word (OtherChannels k) b y) (one-difference channels others n m same' other' same other) s')
+
+-- a trace has one first reset
+pub one-reset : (word : Word) (packets : List Packet) → One (HasReset word packets)
+one-reset word packets a b x y (m, (p, is), s) (n, (q, is'), s') =
+    one-said (Refused word (reasons.HasReset m)) (reason_line word (reasons.HasReset m)) a b x y s
+    (subst (λ (k : ℕ). IsRefusal word (reasons.HasReset k) b y) (nth-unique (does Reset 0) packets 0 n m q p is' is).0 s')
+
+pub reset-apart : (packets : List Packet) (n : ℕ) → HasNoReset packets → IsFirstReset packets n → ⊥
+reset-apart packets n none (p, is) = let l : 0 < resets packets = nth-below (does Reset 0) packets 0 n p is in omega (arith, l, none)
 
 pub one-verdict : (line : List ℕ) (t u : Trace) → One (IsVerdict line t u)
 one-verdict line t u a b x y (inl (none, s)) (inl (none', s')) = one-said Done line a b x y s s'

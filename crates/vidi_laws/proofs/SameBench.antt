@@ -14,8 +14,8 @@ use Rattle.vidi_commands.specs.report_text.declared.reason.Word.TheVariants as w
 use Rattle.vidi_commands.specs.report_text.declared.reason.Reason.{Reason}
 use Rattle.vidi_commands.specs.report_text.Reason.{reason_line}
 use Rattle.vidi_commands.specs.vidi_bench.declared.bench.Bench.{Bench}
-use Rattle.vidi_commands.specs.vidi_bench.declared.status.Status.{Status}
-use Rattle.vidi_commands.specs.vidi_bench.declared.status.Status.TheVariants.{Refused}
+use Rattle.vidi_commands.specs.vidi_bench.vidi_answer.declared.status.Status.{Status}
+use Rattle.vidi_commands.specs.vidi_bench.vidi_answer.declared.status.Status.TheVariants.{Refused}
 use Rattle.vidi_commands.specs.vidi_bench.Reasons.{script_reason}
 use Rattle.vidi_commands.specs.vidi_bench.Steps.{Ending, IsRefusal, IsRefusalFor}
 use Rattle.vidi_commands.specs.vidi_bench.Reading.{IsRead, Reading}

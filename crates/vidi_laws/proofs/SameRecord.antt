@@ -2,7 +2,7 @@
 use Rattle.std.proofs.Common.{◌≡◌, ℕ, ◌≤◌, Bool, false, List, Option, None, Some, Ok, Err, inl, inr, length, sym, ap, subst, ◌∙◌, arith}
 use Rattle.vidi_commands.specs.trace_model.declared.channel.Channel.{Channel}
 use Rattle.vidi_commands.specs.trace_model.declared.row.Row.{Row}
-use Rattle.vidi_commands.specs.trace_model.Recording.{packets_of, trace_of}
+use Rattle.vidi_commands.specs.trace_model.Recording.{trace_of}
 use Rattle.vidi_commands.specs.trace_code.Encoding.{encode}
 use Rattle.vidi_commands.specs.chan_map.declared.pins.Map.{Map}
 use Rattle.vidi_commands.specs.room_ledger.Gates.{Plan}
@@ -25,8 +25,8 @@ use Rattle.vidi_commands.specs.report_text.declared.reason.Word.TheVariants as w
 use Rattle.vidi_commands.specs.report_text.declared.reason.Reason.TheVariants.{StallLine, TooSmall}
 use Rattle.vidi_commands.specs.report_text.Reason.{reason_line}
 use Rattle.vidi_commands.specs.vidi_bench.declared.bench.Bench.{Bench}
-use Rattle.vidi_commands.specs.vidi_bench.declared.status.Status.{Status}
-use Rattle.vidi_commands.specs.vidi_bench.declared.status.Status.TheVariants.{Done, Refused, Unstable}
+use Rattle.vidi_commands.specs.vidi_bench.vidi_answer.declared.status.Status.{Status}
+use Rattle.vidi_commands.specs.vidi_bench.vidi_answer.declared.status.Status.TheVariants.{Done, Refused, Unstable}
 use Rattle.vidi_commands.specs.vidi_bench.Steps.{IsRefusal}
 use Rattle.vidi_commands.specs.vidi_bench.Reading.{Reading}
 use Rattle.vidi_commands.specs.vidi_bench.Benches.{RefusedTexts, IsBench}
@@ -52,7 +52,7 @@ small-once channels p q same a b x y (small, s) (small', s') =
 
 pub recorded-once : (channels : List Channel) (rows : List Row) (stop : Option ℕ) → One (IsRecorded channels rows stop)
 recorded-once channels rows None a b x y u v =
-    one-said Done (recorded_line (length rows) (length (packets_of channels rows))) a b x y u v
+    one-said Done (recorded_line (length rows) (length (trace_of channels rows).packets)) a b x y u v
 recorded-once channels rows (Some c) a b x y u v =
     one-said (Unstable c (length rows)) (unstable_line channels c (length rows)) a b x y u v
 

@@ -1,5 +1,5 @@
 -- `replay`: one answer, which leaves one trace.
-use Rattle.std.proofs.Common.{◌≡◌, ℕ, Bool, List, Option, Some, inl, inr, ◌++◌, ◌∷◌, [], sym, ap, subst, ◌∙◌}
+use Rattle.std.proofs.Common.{◌≡◌, ◌≢◌, ℕ, Bool, List, Option, Some, inl, inr, ◌++◌, ◌∷◌, [], sym, ap, subst, ◌∙◌}
 use Rattle.std.specs.Prelude.{slice_get}
 use Rattle.vidi_commands.specs.trace_model.declared.channel.Channel.{Channel}
 use Rattle.vidi_commands.specs.trace_model.declared.packet.Packet.{Packet}
@@ -8,6 +8,7 @@ use Rattle.vidi_commands.specs.trace_model.declared.trace.Trace.{Trace}
 use Rattle.vidi_commands.specs.trace_model.Recording.{trace_of}
 use Rattle.vidi_commands.specs.trace_code.Decoding.{OnePlace, OneReading}
 use Rattle.vidi_commands.specs.trace_code.Encoding.{encode, Encodes}
+use Rattle.vidi_commands.specs.trace_code.NoReset.{HasNoReset}
 use Rattle.net_design.specs.declared.design.Design.{Design}
 use Rattle.net_design.specs.Lawful.{IsLawful}
 use Rattle.vidi_commands.specs.chan_map.declared.pins.Map.{Map}
@@ -25,17 +26,18 @@ use Rattle.vidi_commands.specs.vidi_io.Writing.{IsWritten}
 use Rattle.vidi_commands.specs.report_text.Short.{short_lines}
 use Rattle.vidi_commands.specs.report_text.declared.reason.Word.TheVariants as words
 use Rattle.vidi_commands.specs.vidi_bench.declared.device.Device.{Device}
-use Rattle.vidi_commands.specs.vidi_bench.declared.status.Status.{Status}
-use Rattle.vidi_commands.specs.vidi_bench.declared.status.Status.TheVariants.{Short, Unstable}
+use Rattle.vidi_commands.specs.vidi_bench.vidi_answer.declared.status.Status.{Status}
+use Rattle.vidi_commands.specs.vidi_bench.vidi_answer.declared.status.Status.TheVariants.{Short, Unstable}
 use Rattle.vidi_commands.specs.vidi_bench.Design.{text_limit}
 use Rattle.vidi_commands.specs.vidi_bench.Devices.{IsDevice}
 use Rattle.vidi_commands.specs.vidi_bench.Reading.{Reading}
-use Rattle.vidi_commands.specs.replay_command.Replays.{IsReplayable, IsReplaySaid, IsUnreplayed, RefusedReplay, RefusedTrace, Replays, ReplaysTrace}
+use Rattle.vidi_commands.specs.replay_command.Replays.{IsReplayable, IsReplaySaid, IsUnfit, IsUnreplayed, RefusedReplay, RefusedTrace, Replays}
+use Rattle.vidi_commands.specs.replay_command.Replays.{ReplaysTrace}
 use Rattle.vidi_commands.specs.replay_command.Said.{replayed_line, unstable_line}
-use Rattle.vidi_commands.specs.trace_commands.Traces.{trace_limit, HasOtherChannels}
+use Rattle.vidi_commands.specs.trace_commands.Traces.{trace_limit}
 use Rattle.vidi_laws.proofs.OneEnding.{One, OneBy, one-said, one-read, one-reading-by, reading-apart}
 use Rattle.vidi_laws.proofs.OneCheck.{Alike, alike}
-use Rattle.vidi_laws.proofs.OneTraces.{one-decoding, one-other, one-verdict}
+use Rattle.vidi_laws.proofs.OneTraces.{one-decoding, one-other, one-reset, one-verdict, reset-apart}
 use Rattle.vidi_laws.proofs.SameDevice.{DeviceLaws, SameDevice, one-wiring, same-device, wiring-apart}
 use Rattle.vidi_laws.proofs.SameRecord.{LeftAlike}
 
@@ -94,12 +96,26 @@ LeavesReplay d m t n out files Started status text left = (rows : List Row) × (
 pub fits : (t : Trace) (bytes : List ℕ) (channels : List Channel) → Encodes t bytes → t.channels ≡ channels → ContentsFit channels t.packets
 fits t bytes channels encodes same = subst (λ (cs : List Channel). ContentsFit cs t.packets) same encodes.0.well_formed.packets
 
+-- ---- why a trace isn't replayed
+other-apart : (channels others : List Channel) (at : ℕ) → others ≡ channels → slice_get channels at ≢ slice_get others at → ⊥
+other-apart channels others at same other = other (ap (λ (cs : List Channel). slice_get cs at) (sym same))
+
+one-unfit : (channels : List Channel) (t : Trace) → One (IsUnfit channels t)
+one-unfit channels t a b x y (inl o) (inl p) = one-other words.Trace channels t.channels a b x y o p
+one-unfit channels t a b x y (inl (at, front, other, s)) (inr (same, r)) = absurd (other-apart channels t.channels at same other)
+one-unfit channels t a b x y (inr (same, r)) (inl (at, front, other, s)) = absurd (other-apart channels t.channels at same other)
+one-unfit channels t a b x y (inr (same, r)) (inr (same', q)) = one-reset words.Trace t.packets a b x y r q
+
+unfit-apart : (channels : List Channel) (t : Trace) → t.channels ≡ channels → HasNoReset t.packets → (a : Status) (x : List ℕ)
+    → IsUnfit channels t a x → ⊥
+unfit-apart channels t same none a x (inl (at, front, other, s)) = other-apart channels t.channels at same other
+unfit-apart channels t same none a x (inr (same', (n, first, s))) = reset-apart t.packets n none first
+
 module _ (laws : ReplayLaws) where
   -- ---- what ends the command before anything is replayed
   one-refused_trace : (bytes : List ℕ) (m : Map) → OneBy Alike (RefusedTrace bytes m)
   one-refused_trace bytes m a b x y u v = alike a b x y
-      (one-decoding laws.reading laws.place words.Trace bytes (λ t. HasOtherChannels words.Trace m.channels t.channels)
-      (λ t. one-other words.Trace m.channels t.channels) a b x y u v)
+      (one-decoding laws.reading laws.place words.Trace bytes (IsUnfit m.channels) (one-unfit m.channels) a b x y u v)
 
   pub one-refused_replay : (design m trace : List ℕ) → OneBy Alike (RefusedReplay design m trace)
   one-refused_replay design m trace = one-wiring laws.devices (RefusedTrace trace) (one-refused_trace trace) design m
@@ -113,22 +129,21 @@ module _ (laws : ReplayLaws) where
       (λ k. one-reading-by Alike alike trace_limit words.Trace trace files (RefusedReplay d k) (one-refused_replay d k)))
 
   -- ---- which isn't there where something is replayed
-  trace-apart : (bytes : List ℕ) (m : Map) (t : Trace) → Encodes t bytes → t.channels ≡ m.channels → (a : Status) (x : List ℕ)
-      → RefusedTrace bytes m a x → ⊥
-  trace-apart bytes m t encodes same a x (inl (at, fault, none, s)) = none t encodes
-  trace-apart bytes m t encodes same a x (inr (u, encodes', (at, front, other, s))) =
-      let table : u.channels ≡ m.channels = ap (λ (k : Trace). k.channels) (laws.reading bytes u t encodes' encodes) ∙ same in
-      other (ap (λ (cs : List Channel). slice_get cs at) (sym table))
+  trace-apart : (bytes : List ℕ) (m : Map) (t : Trace) → Encodes t bytes → t.channels ≡ m.channels → HasNoReset t.packets
+      → (a : Status) (x : List ℕ) → RefusedTrace bytes m a x → ⊥
+  trace-apart bytes m t encodes same none a x (inl (at, fault, no_trace, s)) = no_trace t encodes
+  trace-apart bytes m t encodes same none a x (inr (u, encodes', unfit)) = unfit-apart m.channels t same none a x
+      (subst (λ (k : Trace). IsUnfit m.channels k a x) (laws.reading bytes u t encodes' encodes) unfit)
 
   pub refused-apart : (design m trace : List ℕ) (v : Device) (t : Trace) → IsDevice design m v → Encodes t trace
-      → t.channels ≡ v.map.channels → (a : Status) (x : List ℕ) → RefusedReplay design m trace a x → ⊥
-  refused-apart design m trace v t device encodes same a x =
-      wiring-apart laws.devices design m v device (RefusedTrace trace) a x (trace-apart trace v.map t encodes same a x)
+      → t.channels ≡ v.map.channels → HasNoReset t.packets → (a : Status) (x : List ℕ) → RefusedReplay design m trace a x → ⊥
+  refused-apart design m trace v t device encodes same none a x =
+      wiring-apart laws.devices design m v device (RefusedTrace trace) a x (trace-apart trace v.map t encodes same none a x)
 
   module _ (design m trace : List ℕ) (files : Files) (v : Device) (t : Trace) (is : IsReplayable design m trace (Some files) v t)
       (a : Status) (x : List ℕ) where
     replay-apart : RefusedReplay is.design_text is.map_text is.trace_bytes a x → ⊥
-    replay-apart = refused-apart is.design_text is.map_text is.trace_bytes v t is.device is.encodes is.same a x
+    replay-apart = refused-apart is.design_text is.map_text is.trace_bytes v t is.device is.encodes is.same is.no_reset a x
 
     unreplayed-apart : IsUnreplayed design m trace (Some files) (λ _. ⊥) a x → ⊥
     unreplayed-apart = reading-apart text_limit words.Design design files

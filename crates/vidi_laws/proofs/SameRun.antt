@@ -12,7 +12,7 @@ use Rattle.vidi_commands.specs.bench_run.Plain.{channel_of}
 use Rattle.vidi_commands.specs.vidi_io.Shelf.{Files}
 use Rattle.vidi_commands.specs.report_text.Rows.{run_text}
 use Rattle.vidi_commands.specs.vidi_bench.declared.bench.Bench.{Bench}
-use Rattle.vidi_commands.specs.vidi_bench.declared.status.Status.TheVariants.{Done, Unstable}
+use Rattle.vidi_commands.specs.vidi_bench.vidi_answer.declared.status.Status.TheVariants.{Done, Unstable}
 use Rattle.vidi_commands.specs.vidi_bench.Benches.{RefusedTexts, IsBench}
 use Rattle.vidi_commands.specs.run_commands.Runs.{IsEnded, IsPlayed, RunTexts, Runs}
 use Rattle.vidi_commands.specs.run_commands.Said.{cycles_line, unstable_line}

@@ -15,8 +15,8 @@ use Rattle.vidi_commands.specs.vidi_recorder.Course.{Course, IsTheRunOf}
 use Rattle.vidi_commands.specs.vidi_bench.declared.bench.Bench.{Bench}
 use Rattle.vidi_commands.specs.vidi_bench.declared.device.Device.{Device}
 use Rattle.vidi_commands.specs.sample_command.declared.sampling.Figures.{Figures}
-use Rattle.vidi_commands.specs.vidi_bench.declared.status.Status.{Status}
-use Rattle.vidi_commands.specs.vidi_bench.declared.status.Status.TheVariants.{Done, Diverged}
+use Rattle.vidi_commands.specs.vidi_bench.vidi_answer.declared.status.Status.{Status}
+use Rattle.vidi_commands.specs.vidi_bench.vidi_answer.declared.status.Status.TheVariants.{Done, Diverged}
 use Rattle.vidi_commands.specs.run_commands.Records.{IsRecorded}
 use Rattle.vidi_commands.specs.sample_command.Said.{diverged_text, sample_line}
 use Rattle.vidi_commands.specs.sample_command.Samples.{figures, sample_cycles, IsReplayableTexts, IsRunOfTexts, IsSampleReplay, IsSampleSaid, IsSampleVerdict}
@@ -108,9 +108,9 @@ module _ (laws : ReplayLaws) (k : Figures) (design m bytes : List ℕ) where
   one-samples_replay : OneBy Alike (SamplesReplay k design m bytes)
   one-samples_replay a b x y (inl u) (inl v) = replays.one-refused_replay laws design m bytes a b x y u v
   one-samples_replay a b x y (inl u) (inr (w, t, is, replayed)) =
-      absurd (replays.refused-apart laws design m bytes w t is.device is.encodes is.same a x u)
+      absurd (replays.refused-apart laws design m bytes w t is.device is.encodes is.same is.no_reset a x u)
   one-samples_replay a b x y (inr (w, t, is, replayed)) (inl v) =
-      absurd (replays.refused-apart laws design m bytes w t is.device is.encodes is.same b y v)
+      absurd (replays.refused-apart laws design m bytes w t is.device is.encodes is.same is.no_reset b y v)
   one-samples_replay a b x y (inr (v, t, is, replayed)) (inr (w, u, is', replayed')) =
       let same = same-device laws.devices design m v w is.device is'.device in
       let trace : t ≡ u = laws.reading bytes t u is.encodes is'.encodes in

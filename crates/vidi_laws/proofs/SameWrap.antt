@@ -16,8 +16,8 @@ use Rattle.vidi_commands.specs.report_text.declared.reason.Word.TheVariants as w
 use Rattle.vidi_commands.specs.report_text.declared.reason.Reason.TheVariants as reasons
 use Rattle.vidi_commands.specs.report_text.Reason.{reason_line}
 use Rattle.vidi_commands.specs.vidi_bench.declared.device.Device.{Device}
-use Rattle.vidi_commands.specs.vidi_bench.declared.status.Status.{Status}
-use Rattle.vidi_commands.specs.vidi_bench.declared.status.Status.TheVariants.{Done, Refused}
+use Rattle.vidi_commands.specs.vidi_bench.vidi_answer.declared.status.Status.{Status}
+use Rattle.vidi_commands.specs.vidi_bench.vidi_answer.declared.status.Status.TheVariants.{Done, Refused}
 use Rattle.vidi_commands.specs.vidi_bench.Design.{text_limit}
 use Rattle.vidi_commands.specs.vidi_bench.Devices.{IsDevice, Mapping}
 use Rattle.vidi_commands.specs.vidi_bench.Reading.{Reading}

@@ -12,12 +12,12 @@ use Rattle.vidi_commands.specs.trace_model.declared.channel.Dir.TheVariants.{Inw
 use Rattle.vidi_commands.specs.trace_model.declared.packet.Packet.{Packet}
 use Rattle.vidi_commands.specs.trace_model.declared.row.Row.{Row}
 use Rattle.vidi_commands.specs.trace_model.declared.trace.Trace.{Trace}
-use Rattle.vidi_commands.specs.trace_model.Recording.{packets_of, trace_of}
+use Rattle.vidi_commands.specs.trace_model.Recording.{trace_of}
 use Rattle.vidi_commands.specs.trace_code.Encoding.{HasEncoding, encode, header_bytes}
 use Rattle.vidi_commands.specs.trace_code.Salvage.{front, LieWhole}
 use Rattle.vidi_commands.specs.trace_compare.declared.report.Finding.{Finding}
 use Rattle.vidi_commands.specs.trace_compare.declared.report.What.{What}
-use Rattle.vidi_commands.specs.trace_compare.declared.report.What.TheVariants.{Differs, ExtraStart, ExtraEnd, EarlyStart, EarlyEnd}
+use Rattle.vidi_commands.specs.trace_compare.declared.report.What.TheVariants.{Differs, ExtraStart, ExtraEnd, EarlyStart, EarlyEnd, ExtraReset}
 use Rattle.vidi_commands.specs.trace_compare.Findings.{findings}
 use Rattle.vidi_commands.specs.run_model.Held.{held, waits}
 use Rattle.vidi_commands.specs.run_model.Laws.{AreInOrder, ContentsStay}
@@ -40,8 +40,8 @@ use Rattle.vidi_commands.specs.vidi_bench.declared.bench.Bench.{Bench}
 use Rattle.vidi_commands.specs.vidi_bench.declared.device.Device.{Device}
 use Rattle.vidi_commands.specs.vidi_bench.Benches.{IsBench}
 use Rattle.vidi_commands.specs.vidi_bench.Design.{Spells}
-use Rattle.vidi_commands.specs.vidi_bench.declared.status.Status.{Status}
-use Rattle.vidi_commands.specs.vidi_bench.declared.status.Status.TheVariants.{Done}
+use Rattle.vidi_commands.specs.vidi_bench.vidi_answer.declared.status.Status.{Status}
+use Rattle.vidi_commands.specs.vidi_bench.vidi_answer.declared.status.Status.TheVariants.{Done}
 use Rattle.vidi_commands.specs.vidi_bench.Steps.{IsSaid}
 use Rattle.vidi_commands.specs.run_commands.Records.{course_of, IsPlanned}
 use Rattle.vidi_commands.specs.replay_command.Replays.{IsReplayable, IsTheReplay}
@@ -135,25 +135,27 @@ AreNamed channels packets rows (Ended cycles) = Unit {0}
 AreNamed channels packets rows (Short helds events) = (helds ≡ held channels packets rows) × (events ≡ waits channels packets rows)
 AreNamed channels packets rows (Unstable channel cycle) = Unit {0}
 
--- a finding on a channel of this direction says of an event that the replayers control that it is another one, or too much, or too early
+-- a finding on a channel of this direction says of an event that the replayers control, or of a reset, that it is another one, or too much,
+-- or too early
 abbrev pub breaks_order : Dir → What → Bool
 breaks_order Inward Differs = true
 breaks_order Inward ExtraStart = true
 breaks_order Inward EarlyStart = true
 breaks_order Outward ExtraEnd = true
 breaks_order Outward EarlyEnd = true
+breaks_order dir ExtraReset = true
 breaks_order dir what = false
 
 abbrev pub KeepsOrder : List Channel → Finding → Type 0
 KeepsOrder channels finding =
     (x : Channel) → slice_get channels finding.channel ≡ Some x → breaks_order x.dir finding.what ≡ false
 
--- Rows of a replay of these packets. Each input start and output completion is a recorded one, and the completions of the rows before it cover
--- its recorded clock; the contents of an inward channel are a prefix of those recorded. So no finding against the recorded packets breaks
+-- Rows of a replay of these packets. In their trace each input start and output completion is a recorded one, and the completions before it
+-- cover its recorded clock; the contents of an inward channel are a prefix of those recorded. So no finding against the recorded packets breaks
 -- the order. Contents stay until they are taken. What is held back and awaited is named exactly, and is in no circle. The trace has an
 -- encoding.
 pub record IsFaithful (channels : List Channel) (packets : List Packet) (rows : List Row) (outcome : ReplayOutcome) : Type 0 where
-  pub order : AreInOrder channels packets (packets_of channels rows)
+  pub order : AreInOrder channels packets (trace_of channels rows).packets
   pub unbroken : All (KeepsOrder channels) (findings (record { channels = channels; packets = packets }) (trace_of channels rows))
   pub contents : ContentsStay channels rows
   pub named : AreNamed channels packets rows outcome

@@ -3,8 +3,8 @@ use Rattle.std.specs.Prelude.{◌≡◌, ℕ, ◌⊎◌, List, Option, Some}
 use Rattle.vidi_commands.specs.vidi_io.Shelf.{Files, HasStarted}
 use Rattle.vidi_commands.specs.report_text.declared.reason.Word.TheVariants as words
 use Rattle.vidi_commands.specs.report_text.declared.reason.Reason.TheVariants.{Loop}
-use Rattle.vidi_commands.specs.vidi_bench.declared.status.Status.{Status}
-use Rattle.vidi_commands.specs.vidi_bench.declared.status.Status.TheVariants.{Refused, Memory}
+use Rattle.vidi_commands.specs.vidi_bench.vidi_answer.declared.status.Status.{Status}
+use Rattle.vidi_commands.specs.vidi_bench.vidi_answer.declared.status.Status.TheVariants.{Refused, Memory}
 use Rattle.vidi_commands.specs.Answer.{Earns}
 
 -- the design is refused for a loop of its drivers (E10), of which any may be named

@@ -12,8 +12,8 @@ use Rattle.shim_gen.specs.shim_trees.ReplayTop.{replay_name}
 use Rattle.shim_gen.specs.shim_trees.Wrapped.{wrapped}
 use Rattle.vidi_bench.specs.report_text.declared.reason.Word.TheVariants as words
 use Rattle.vidi_bench.specs.report_text.declared.reason.Reason.TheVariants as reasons
-use Rattle.vidi_bench.specs.declared.status.Status.{Status}
-use Rattle.vidi_bench.specs.declared.status.Status.TheVariants.{Done, WriteFault}
+use Rattle.vidi_bench.specs.vidi_answer.declared.status.Status.{Status}
+use Rattle.vidi_bench.specs.vidi_answer.declared.status.Status.TheVariants.{Done, WriteFault}
 use Rattle.vidi_bench.specs.Design.{text_limit, Building}
 use Rattle.vidi_bench.specs.Devices.{Binding, IsNoMap, IsUnbound, Mapping}
 use Rattle.vidi_bench.specs.Reading.{Reading}

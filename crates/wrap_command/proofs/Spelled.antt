@@ -14,7 +14,7 @@ use Rattle.vlog_print.specs.vlog_parse.declared.error.ParseError.TheVariants.{It
 use Rattle.vlog_print.specs.Printed.{IsTextOf, PrintedIsRead, PrintedIsSpelled}
 use Rattle.shim_gen.specs.chan_map.declared.pins.Map.{Map}
 use Rattle.shim_gen.specs.shim_trees.Wrapped.{reserved_names, wrapped}
-use Rattle.vidi_bench.specs.declared.answer.Ended.{Ended}
+use Rattle.vidi_bench.specs.vidi_answer.declared.answer.Ended.{Ended}
 use Rattle.vidi_bench.specs.Design.{text_limit}
 use Rattle.wrap_command.specs.Shims.{file_text, IsClearTree, IsFaultyTree, IsLong, IsReadAs, IsUnwrapped, IsWrapped}
 use Rattle.vidi_bench.proofs.Chain.{Implies}

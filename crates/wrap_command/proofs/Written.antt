@@ -9,10 +9,10 @@ use Rattle.shim_gen.specs.chan_map.declared.pins.Map.{Map}
 use Rattle.shim_gen.specs.chan_map.declared.text.MapText.{MapText}
 use Rattle.shim_gen.specs.chan_map.Text.{ReadsMap}
 use Rattle.shim_gen.specs.shim_trees.Wrapped.{wrapped}
-use Rattle.vidi_bench.specs.declared.answer.Answer.{Answer}
-use Rattle.vidi_bench.specs.declared.answer.Ended.{Ended}
-use Rattle.vidi_bench.specs.declared.answer.Ended.TheVariants as ends
-use Rattle.vidi_bench.specs.declared.status.Status.TheVariants.{Done}
+use Rattle.vidi_bench.specs.vidi_answer.declared.answer.Answer.{Answer}
+use Rattle.vidi_bench.specs.vidi_answer.declared.answer.Ended.{Ended}
+use Rattle.vidi_bench.specs.vidi_answer.declared.answer.Ended.TheVariants as ends
+use Rattle.vidi_bench.specs.vidi_answer.declared.status.Status.TheVariants.{Done}
 use Rattle.wrap_command.specs.declared.wrapping.Wrapping.{Wrapping}
 use Rattle.vidi_bench.specs.AnswerText.{text_of}
 use Rattle.vidi_bench.specs.Design.{text_limit, Building, Spells}

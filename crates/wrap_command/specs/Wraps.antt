@@ -11,8 +11,8 @@ use Rattle.shim_gen.specs.chan_map.Text.{ReadsMap}
 use Rattle.shim_gen.specs.chan_map.Bound.{BindsMap}
 use Rattle.shim_gen.specs.shim_trees.Wrapped.{wrapped}
 use Rattle.vidi_bench.specs.report_text.declared.reason.Word.TheVariants as words
-use Rattle.vidi_bench.specs.declared.status.Status.{Status}
-use Rattle.vidi_bench.specs.declared.status.Status.TheVariants.{Done}
+use Rattle.vidi_bench.specs.vidi_answer.declared.status.Status.{Status}
+use Rattle.vidi_bench.specs.vidi_answer.declared.status.Status.TheVariants.{Done}
 use Rattle.vidi_bench.specs.Design.{text_limit, IsAccepted, Spelling, Spells}
 use Rattle.vidi_bench.specs.Devices.{Mapping}
 use Rattle.vidi_bench.specs.Reading.{IsRead, Reading}
