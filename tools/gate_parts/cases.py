@@ -10,20 +10,27 @@ print      what the examples' designs are printed as
 wrap       wrapped designs, written by a model of its own
 sample     what samples come to, by a model of its own
 random     wrapped random designs
+bursts     what `vidi bursts` says of traces, by a reader of its own
+move       moved completions of traces by chance, by a model of its own
+resets     what `vidi run` says of scripts that ask for resets, by models of its own
 count      of each program that plays cases the names and numbers of its cases, the last
 """
 import sys
 
+from gate_parts import burst_cases
 from gate_parts import count_cases
+from gate_parts import move_cases
 from gate_parts import page_cases
 from gate_parts import print_cases
+from gate_parts import reset_cases
 from gate_parts import sample_cases
 from gate_parts import shim_random_cases
 from gate_parts import wrap_cases
 from vidi_tools import tool_kit
 from vidi_tools.tool_kit import Problem
 
-KINDS = {"pages": page_cases, "print": print_cases, "wrap": wrap_cases, "sample": sample_cases, "random": shim_random_cases, "count": count_cases}
+KINDS = {"pages": page_cases, "print": print_cases, "wrap": wrap_cases, "sample": sample_cases, "random": shim_random_cases, "bursts": burst_cases,
+         "move": move_cases, "resets": reset_cases, "count": count_cases}
 
 
 def main():

@@ -1,15 +1,18 @@
 """Plays each example with `vidi run` and compares the exit status and the text with what its run.out has. Where it has a plan of
-stalls, records it too and compares what `vidi record` and then `vidi dump` of the trace print with its record.out.
+stalls, records it too and compares what `vidi record` and then `vidi dump` of the trace print with its record.out, and where it has an AXI file
+what `vidi bursts` prints with its bursts.out.
 
     gate check examples [FOLDER]
 
-An example is a folder of FOLDER, or of examples/, with the files design.v, map, script and run.out, and maybe stalls and record.out.
+An example is a folder of FOLDER, or of examples/, with the files design.v, map, script and run.out, and maybe stalls and record.out, axi and
+bursts.out.
 """
 import os
 import subprocess
 import sys
 import tempfile
 
+from vidi_tools import commands
 from vidi_tools import tool_kit
 
 
@@ -36,7 +39,11 @@ def recording_fault(vidi, folder):
         trace = os.path.join(room, "trace")
         recorded, fault = printed(vidi, folder, "record", "design.v", "map", "script", "stalls", trace)
         dumped, broken = printed(vidi, folder, "dump", trace)
-        return fault or broken or parting(recorded + dumped, folder, "record.out")
+        found = fault or broken or parting(recorded + dumped, folder, "record.out")
+        if found or not commands.has("bursts") or not os.path.exists(os.path.join(folder, "axi")):
+            return found
+        grouped, fault = printed(vidi, folder, "bursts", trace, "axi")
+        return fault or parting(grouped, folder, "bursts.out")
 
 
 def fault(vidi, folder):

@@ -92,7 +92,7 @@ def check_contracts(checker):
 
 def check_programs(checker):
     """What the three programs say of their words."""
-    for program, count in (("vidi-tools", len(commands.TOOLS)), ("gate", 15), ("make", 9)):
+    for program, count in (("vidi-tools", len(commands.TOOLS)), ("gate", 16), ("make", 12)):
         said, status = checker.run(program, "--help")
         checker.case(f"{program} --help", (len(re.findall(rf"^  {program} \S+ ", said, re.M)), status), (count, 0))
         checker.case(f"{program} without words", checker.run(program), (said, 1))
@@ -119,7 +119,7 @@ def check_made(checker):
     checker.refused("gate words of none", ["gate", "words", "nothere"], "words: no word nothere")
     checker.refused("gate definitions of none", ["gate", "definitions", "nothere"], "definitions: no file of specs/ has nothere")
     checker.refused("gate check of no part", ["gate", "check", "nothing"],
-                    "check: no part nothing; there are examples, tools, pages, printed, wrapped")
+                    "check: no part nothing; there are examples, tools, pages, printed, wrapped, resets")
 
 
 def check_bin(checker):

@@ -111,17 +111,10 @@ def by_script(checker, play, name, files):
     checker.case(f"bench of {name} of its script", played(checker, play, words, found or design)[1], bytes_of(checker, "whole.trace"))
 
 
-def ended(source):
-    """Ends the simulator of a design."""
-    source.run.stdin.close()
-    source.run.wait()
-    source.run.stdout.close()
-
-
 def widths_of(design, plan, folder):
     """The widths of each channel's contents, by Icarus."""
     source = icarus_rows.Design(design, plan, folder)
-    ended(source)
+    source.close()
     return source.widths
 
 
@@ -132,7 +125,7 @@ def recorded(files, stalls):
     with tempfile.TemporaryDirectory() as folder:
         source = icarus_rows.Design(design, plan, folder)
         rows, _, _ = icarus_rows.play(plan, source, icarus_rows.lines(script), icarus_rows.Room(source.widths, stalls))
-        ended(source)
+        source.close()
     trace = icarus_rows.trace_of(plan, source.widths, rows)
     return trace_kit.encoded(trace.channels, trace.packets)
 
@@ -160,10 +153,14 @@ def all_ways(checker, play, name):
     by_cycles(checker, play, name, files, stalls)
 
 
+# A bench plays no reset in mid-run.
+PLAYED = [name for name in tool_kit.examples() if not tool_kit.has_resets(name)]
+
+
 def check_benches(checker):
     """Each example by all ways in Icarus, on the design as it was found, against Vidi and the definition of a recording."""
     if checker.has("bench in Icarus", "iverilog"):
-        for name in tool_kit.examples():
+        for name in PLAYED:
             all_ways(checker, in_icarus, name)
 
 
@@ -171,7 +168,7 @@ def check_in_verilator(checker):
     """One example by all ways in Verilator, and all of them where --verilator is said: each bench takes it seconds to build. The script of axi_lite
     writes out of range, where Verilator 5.006 writes another word."""
     if checker.has("bench in Verilator", "verilator", "g++", "make", "iverilog"):
-        for name in [name for name in tool_kit.examples() if name != "axi_lite"] if checker.is_long else ["fifo"]:
+        for name in [name for name in PLAYED if name != "axi_lite"] if checker.is_long else ["fifo"]:
             all_ways(checker, in_verilator, name)
 
 
@@ -189,7 +186,7 @@ def check_gaps(checker):
 
 def check_replayers(checker):
     """The replayers of a bench are those that `vidi wrap` writes, token by token."""
-    for name in tool_kit.examples():
+    for name in PLAYED:
         found, design, plan, script, _ = files_of(name)
         checker.write("free", "capacity 65536\n")
         checker.run("vidi", "record", design, plan, script, "free", "trace")
@@ -228,6 +225,8 @@ WORDS = [  # the words of bench, and what it says
     (["--script", "pass.script", "pass.map", "-o", "b.v", "--by", "clocks"], "a script is played by cycles, not by clocks"),
     (["--script", "wide.script", "pass.map", "-o", "b.v", "--files", "pass.v"], "wide.script: a sends 256, and a_d has 8 bits"),
     (["--script", "bad.script", "pass.map", "-o", "b.v", "--files", "pass.v"], "bad.script line 2: no step of a: a take 1"),
+    (["--script", "reset.script", "pass.map", "-o", "b.v", "--files", "pass.v"], "reset.script line 2: a reset in mid-run, and a bench plays none"),
+    (["--script", "reset.script", "pass.map", "-o", "b.v", "--files", "pass.v"], "reset.script line 2: a reset in mid-run, and a bench plays none"),
     (["--script", "none.script", "pass.map", "-o", "b.v", "--files", "pass.v"], "none.script line 2: no line of a script of this map: c send 1"),
     (["pass.trace", "pass.map", "-o", "b.txt"], "b.txt: the name of a bench ends in .v and has letters, digits, _, -, + and . alone"),
     (["--script", "pass.script", "pass.map", "-o", "b.v", "--files", "none.v"], "none.v: No such file or directory"),
@@ -242,7 +241,7 @@ def check_bench_words(checker):
         checker.write(name, tool_kit.text_of(path))
     checker.write("other.v", "module other(input clk);\nendmodule\n")
     checker.write("other.map", tool_kit.text_of(plan).replace("in a ", "in c "))
-    for name, text in (("wide", "cycles 4\na send 256\n"), ("bad", "cycles 4\na take 1\n"), ("none", "cycles 4\nc send 1\n")):
+    for name, text in (("wide", "cycles 4\na send 256\n"), ("bad", "cycles 4\na take 1\n"), ("none", "cycles 4\nc send 1\n"), ("reset", "cycles 4\nreset at 1\n")):
         checker.write(f"{name}.script", text)
     checker.run("vidi", "record", design, plan, script, stalls, "pass.trace")
     whole = bytes_of(checker, "pass.trace")

@@ -3,6 +3,7 @@ import json
 import os
 import re
 
+from vidi_tools import commands
 from vidi_tools import tool_kit
 
 EXAMPLES = os.path.abspath(tool_kit.EXAMPLES)
@@ -23,28 +24,66 @@ SAID = [  # what is written to which file, the command, and the sentence
      "script line 2, `a send 5 5`: send wants a number for each content port of a (a_d), and 2 stand there"),
     ({"script": ("a send 5", "c send 5")}, "run design.v map script", "script line 2, `c send 5`: the map has no channel c; it has a, b"),
     ({"script": ("b take all", "b send 1")}, "run design.v map script", "script line 4, `b send 1`: b is outward: write take"),
+    ({"script": ("a send 5", "reset at 0")}, "run design.v map script",
+     "script line 2, `reset at 0`: a reset comes in row 1 to 49,999, and later than that of the reset line before it"),
+    ({"script": ("a send 5", "reset at one")}, "run design.v map script",
+     "script line 2, `reset at one`, is no line of a script: cycles N first, then CH send N .., CH take N, CH take all, CH wait N, CH after OTHER N, "
+     "reset at T"),
     ({"stalls": (None, "capacity 21\n")}, "record design.v map script stalls out",
      "stalls has a capacity of 21 bytes, and a start and an end of each channel need 22: write capacity 22"),
     ({"design.v": ("assign b_d", "assign c_d")}, "run design.v map script",
      "design.v declares no c_d: declare it, mend the name, or name the right top"),
     ({}, "dump design.v", "design.v looks like a design, and a trace is wanted there: are design and trace exchanged?"),
     ({"notes": (None, "some words\n")}, "dump notes", "notes is no trace: it doesn't begin with VIDITRC"),
-    ({"old.trace": (None, "VIDITRC1\1\0\1a\0\0\0\0\0\0")}, "dump old.trace", "old.trace is an old trace, of version 1, and this program reads version 2"),
+    ({"old.trace": (None, "VIDITRC1\1\0\1a\0\0\0\0\0\0")}, "dump old.trace",
+     "old.trace is an old trace, of version 1: vidi migrate old.trace OUT writes it in today's bytes"),
+    ({"new.trace": (None, "VIDITRC2\1\0\1a\0\0\0\0\0\0")}, "migrate new.trace out", "new.trace is a trace of version 2 already"),
     ({"head.trace": (None, "VIDITRC2\1\0\1a")}, "dump head.trace", "head.trace begins with VIDITRC, but its list of channels isn't whole"),
     ({"cut.trace": (None, "VIDITRC2\1\0\1a\0\1\0\0\1\1\1\0")}, "dump cut.trace",
      "cut.trace is whole up to byte 18 of 20: vidi salvage cut.trace OUT writes what is whole"),
     ({"other.trace": (None, "VIDITRC2\1\0\1a\1\4\0\0\0\0\0")}, "replay design.v map other.trace 9 out",
      "other.trace has other channels from number 0 on: map has in a with 1 contents; other.trace has in a 4"),
     ({"reset.trace": (None, "VIDITRC2\2\0\1a\1\x08\1\1b\1\x08\1\0\0\1\1\5\2\0\0\0\0\0\0\2")}, "replay design.v map reset.trace 9 out",
-     "in reset.trace the design was reset in packet 1, and replay plays no trace with a reset yet"),
+     "in reset.trace the design was reset in packet 1, and this command takes no trace with a reset"),
     ({}, "run design.v map .", ". can't be read: it is a folder"),
     ({}, "record design.v map script stalls .", ". wasn't written: it is a folder"),
     ({}, "run design.v map none", "none can't be read: there is no such file"),
     ({}, "run design.v map", "run takes 3 words, DESIGN MAP SCRIPT, and 2 stand there"),
     ({}, "replay design.v map notes 60000 out", "CYCLES is 60000, and 1 to 50000 is lawful"),
     ({}, "wrap design.v map map", "map would be read and written: name another file for OUT"),
-    ({}, "go", "the commands are check, run, record, replay, dump, compare, salvage, wrap, sample; say --help lists their words"),
+    ({}, "go", "the commands are check, run, record, replay, dump, compare, salvage, migrate, bursts, move, wrap, sample; say --help lists their words"),
     ({}, "record design.v map script stalls none/out", "none/out wasn't written: there is no folder {folder}/none")]
+
+
+# The same of commands that come later: the command, what is written to which file, its words, and the sentence.
+LATER = [
+    ("bursts", {"axi": (None, "beat 3\n")}, "bursts head.trace axi",
+     "axi line 1, `beat 3`, is no line of an AXI file: beat N first, then aw CH ID ADDR LEN SIZE BURST, w CH LAST, b CH ID, ar CH ID ADDR LEN SIZE BURST, r "
+     "CH ID LAST, each once, with places from 0 or none; aw, w and b come together, and so do ar and r"),
+    ("bursts", {"axi": (None, "beat 4\nar c none 0 none none none\nr b none none\n")}, "bursts head.trace axi",
+     "axi line 2, `ar c none 0 none none none`: the trace has no channel c; it has a, b"),
+    ("bursts", {"axi": (None, "beat 4\nar a none 1 none none none\nr b none none\n")}, "bursts head.trace axi",
+     "axi line 2, `ar a none 1 none none none`: a has 1 content ports, and ADDR is port 1: they count from 0"),
+    ("bursts", {"axi": (None, "beat 4\nar a none 0 none none none\nr b none 0\n")}, "bursts head.trace axi",
+     "axi line 3, `r b none 0`: port 0 of b has 8 bits, and LAST has 1"),
+    ("bursts", {"axi": (None, "beat 4\nar a none 0 none none none\nr a none none\n")}, "bursts head.trace axi",
+     "axi line 3, `r a none none`: a or one of its ports is named twice, or goes the other way: aw, w and ar one way, b and r the other"),
+    ("bursts", {"axi": (None, "beat 4\nar a none 0 none none none\nr b none none\n")}, "bursts short.trace axi",
+     "short.trace breaks rule 4 of AXI4's bursts at transaction 0 of b, counted from 0: vidi-tools explain --axi says why"),
+    ("move", {}, "move short.trace b 0 before b 1 out", "short.trace hasn't so many completions of that channel: they count from 0, over the whole trace"),
+    ("move", {}, "move short.trace b 0 before b 0 out", "both are one completion of short.trace: name another one")]
+TRACE = "VIDITRC2\2\0\1a\1\x08\1\1b\1\x08"
+
+
+def check_say_later(checker):
+    """Those of the commands that vidi has by now."""
+    checker.write("head.trace", TRACE + "\0\0\0\0\0")
+    checker.write("short.trace", TRACE + "\1\0\0\2\2\7" + "\0\0\0\0\1")
+    for command, files, words, sentence in (one for one in LATER if commands.has(one[0])):
+        for file, (_, text) in files.items():
+            checker.write(file, text)
+        plain, status = checker.run("vidi", *words.split())
+        checker.case(f"say {words}: {sentence}", checker.run("say", *words.split()), (f"{plain}say: {sentence}\n", status))
 
 
 def check_say(checker):
@@ -64,7 +103,7 @@ def check_say(checker):
         checker.case(f"say {words}", checker.run("say", *words.split()), checker.run("vidi", *words.split()))
     said, status = checker.run("say", "--help")
     commands = re.findall(r"^  vidi (\w+) ", said, re.M)
-    checker.case("say --help", (commands, status), ("check run record replay dump compare salvage wrap sample".split(), 0))
+    checker.case("say --help", (commands, status), ("check run record replay dump compare salvage migrate bursts move wrap sample".split(), 0))
     checker.case("say without words", checker.run("say"), (said, 1))
 
 
@@ -109,4 +148,4 @@ def check_show_more(checker):
         {"name": "b", "direction": "out", "widths": [4], "transactions": [{"start": 0, "end": 1, "content": [1]}]}]}, 0))
 
 
-CHECKS = (check_say, check_say_reasons, check_show_more)
+CHECKS = (check_say, check_say_later, check_say_reasons, check_show_more)

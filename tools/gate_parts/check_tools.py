@@ -14,8 +14,10 @@ import subprocess
 import sys
 import tempfile
 
+from gate_parts import check_bursts
 from gate_parts import check_field
 from gate_parts import check_gate
+from gate_parts import check_moves
 from gate_parts import check_replays
 from gate_parts import check_said
 from gate_parts import check_stores
@@ -274,6 +276,14 @@ def check_capture(checker):
     checker.write("bad.map", plan.replace("in a", "inward a"))
     checker.refused("capture by a bad map", ["capture", "two_words.vcd", "bench.dut", "bad.map"],
                     "capture: bad.map line 4: no line of a map: inward a a_v a_r a_d")
+    checker.write("again.vcd", waves.replace("#40\n", "#40\n1r\n").replace("#46\n0a\n", "#46\n0r\n"))
+    said = checker.run("capture", "again.vcd", "bench.dut", "two_words.map", "--resets", "--trace", "out.trace")
+    checker.case("capture of a reset that comes again", said, (
+        "capture: resets that come again, 1 of them, are packets of the trace: in Vidi such a reset brings all state back, memories too\n", 0))
+    with open(os.path.join(checker.folder, "out.trace"), "rb") as file:  # a 5, then 6 beside the 5 at b, the reset, and the 6 again
+        checker.case("its trace", file.read().hex(), "564944495452433202000161010801016201080100010101050100000300060502000001000001010600000000" + "04")
+    checker.refused("capture --resets of a script", ["capture", "again.vcd", "bench.dut", "two_words.map", "--resets", "-o", "out"],
+                    "capture: --resets is for a trace: a script's sends go on over a reset, and those of a bench may not; say --trace OUT, and no -o", "out")
     checker.write("taken.vcd", waves.replace("#40\n0!\n", "#40\n0!\n0d\n"))
     said, status = checker.run("capture", "taken.vcd", "bench.dut", "two_words.map")
     note = "capture: b changes its valid b_v before it is taken, at cycle 3 time 45; the capture ends there"
@@ -390,7 +400,8 @@ def main():
     options = tool_kit.parse_options(parser)
     checker = Checker(tool_kit.wanted_program(), options.verilator)
     checks = (check_left_out, check_lower, check_words, check_same, check_map, check_capture, check_capture_range, check_benches, check_show,
-              check_explain, check_build, *check_gate.CHECKS, *check_field.CHECKS, *check_replays.CHECKS, *check_said.CHECKS, *check_stores.CHECKS)
+              check_explain, check_build, *check_bursts.CHECKS, *check_gate.CHECKS, *check_field.CHECKS, *check_moves.CHECKS,
+              *check_replays.CHECKS, *check_said.CHECKS, *check_stores.CHECKS)
     try:
         for check in (check for check in checks if options.only in check.__name__):
             check(checker)

@@ -570,8 +570,8 @@ def page_in_verilator(vidi):
 
 
 def examples():
-    """The examples, name by name; one without a plan has a small store."""
-    for name in tool_kit.examples():
+    """The examples without resets in mid-run, name by name; one without a plan has a small store."""
+    for name in (name for name in tool_kit.examples() if not tool_kit.has_resets(name)):
         texts = {}
         for file in ("design.v", "map", "script", "stalls"):
             path = os.path.join(EXAMPLES, name, file)

@@ -32,7 +32,7 @@ def rows_of(text, plan, script, stalls=None):
         path = os.path.join(folder, "found.v")
         tool_kit.write(path, text)
         design = same_transfers.Found([path], plan, folder)
-        room = icarus_rows.Room(design.widths, stalls) if stalls else icarus_rows.AllUp(design.widths)
+        room = icarus_rows.Room(design.widths, stalls, bool(icarus_rows.times_of(script))) if stalls else icarus_rows.AllUp(design.widths)
         try:
             rows, unstable, _ = icarus_rows.play(plan, design, script, room)
             return rows, unstable, design.widths
@@ -40,9 +40,9 @@ def rows_of(text, plan, script, stalls=None):
             design.close()
 
 
-def findings(rows, others, names):
-    """The lines of `vidi compare`, by its definition."""
-    mine, theirs, lines = trace_kit.histories(names, rows), trace_kit.histories(names, others), []
+def epoch_findings(packets, others, names):
+    """The lines of `vidi compare` of two epochs."""
+    mine, theirs, lines = trace_kit.histories(names, packets), trace_kit.histories(names, others), []
     for name in names:
         starts, others_starts = mine[0][name], theirs[0][name]
         lines += [f"differs {name} start {at}" for at, (a, b) in enumerate(zip(starts, others_starts)) if a[0] != b[0]][:1]
@@ -53,6 +53,17 @@ def findings(rows, others, names):
         for kind, (ours, those) in clocks.items():
             early = [at for at, (clock, have) in enumerate(zip(ours, those)) if not trace_kit.covered(clock, have)]
             lines += [f"early {name} {kind} {early[0]} count {len(early)}"] if early else []
+    return lines
+
+
+def findings(packets, others, names):
+    """The lines of `vidi compare`, by its definition: epoch by epoch, then the resets."""
+    mine, theirs, lines = trace_kit.epochs_of(packets), trace_kit.epochs_of(others), []
+    for epoch, both in enumerate(zip(mine, theirs)):
+        found = epoch_findings(*both, names)
+        lines += [f"epoch {epoch}"] * (epoch > 0 and bool(found)) + found
+    if len(mine) != len(theirs):
+        lines.append(f"{'missing' if len(mine) > len(theirs) else 'extra'} reset {min(len(mine), len(theirs)) - 1}")
     return lines + ["diverged" if lines else "no divergence"]
 
 
@@ -64,7 +75,7 @@ def main():
     if is_bug:
         rows, unstable, _ = rows_of(edited(text, words[3]), plan, script)
         good = rows_of(text, plan, script)[0]
-        lines = [f"vidi: unstable {unstable} cycle {len(rows)}"] if unstable else findings(good, rows, names)
+        lines = [f"vidi: unstable {unstable} cycle {len(rows)}"] if unstable else findings(*map(trace_kit.packets_of, (good, rows)), names)
         print("\n".join(lines))
     elif len(words) > 3:
         rows, unstable, widths = rows_of(text, plan, script, words[3])

@@ -2,7 +2,7 @@
 
     gate mutate [--count N] [--seed S] [--only COMMAND] [--keep FOLDER]
 
-N inputs a command (10,000 where nothing is said) for check, run, record, replay, dump, compare, salvage and wrap. Each is made of the files of
+N inputs a command (10,000 where nothing is said) for check, run, record, replay, dump, compare, salvage, migrate and wrap. Each is made of the files of
 an example or of a design of `make random`: in one or more of the files that the command reads, bytes are changed, cut or doubled and lines or
 words exchanged, one to four times; to one trace in five a reset is added before. Wrong is: an end by a signal, more than a second of processor
 time three times (or 20 seconds by the clock), anything on the standard error, an exit number other than 0, 4, 5, 6 and 7 (the words are always a
@@ -29,7 +29,7 @@ from vidi_tools.tool_kit import Problem
 COMMANDS = {
     "check": (["design"], None), "run": (["design", "map", "script"], None), "record": (["design", "map", "script", "stalls"], "out"),
     "replay": (["design", "map", "trace"], "out"), "dump": (["trace"], None), "compare": (["trace", "other"], None),
-    "salvage": (["trace"], "out"), "wrap": (["design", "map"], "out"),
+    "salvage": (["trace"], "out"), "migrate": (["old"], "out"), "wrap": (["design", "map"], "out"),
 }
 N, CH, X = rb"(?:0|[1-9]\d*)", rb"[A-Za-z_]\w{0,63}", rb"[^\n]+"
 DESIGN = rb"|".join([
@@ -39,12 +39,13 @@ DESIGN = rb"|".join([
 MAP = rb"M1 line N|M2 port line N|M3 cover X times N|M4 limit (?:channels|ports|bytes) got N|too long, limit 4194304"
 SCRIPT = rb"S1 line N|S2 channel line N|S3 number line N|too long, limit 4194304"
 STALLS = rb"P1 line N|too small need N given N|too long, limit 4194304"
-TRACE = rb"bad trace at N|too long, limit 134217728"
+TRACE = rb"old trace|bad trace at N|too long, limit 134217728"
 REFUSED = {
     "check": {"design": DESIGN}, "run": {"design": DESIGN, "map": MAP, "script": SCRIPT},
     "record": {"design": DESIGN, "map": MAP, "script": SCRIPT, "stalls": STALLS},
     "replay": {"design": DESIGN, "map": MAP, "trace": TRACE + rb"|other channels at N|reset in packet N"}, "dump": {"trace": TRACE},
     "compare": {"trace": TRACE, "other": TRACE + rb"|other channels at N"}, "salvage": {"trace": rb"bad trace at 0|too long, limit 134217728"},
+    "migrate": {"trace": rb"bad trace at N|too long, limit 67108864"},
     "wrap": {"design": DESIGN + rb"|reserved X|wrapped has EN|wrapped text too long", "map": MAP},
 }
 FINDINGS = rb"(?:(?:epoch N|differs CH start N|(?:missing|extra) (?:CH (?:start|end)|reset) N|early CH (?:start|end) N count N)\n)+diverged\n"
@@ -58,7 +59,7 @@ SAID = {
     ("replay", 6): rb"short after N cycles\n(?:held CH (?:start|end) N\n(?:awaits CH have N need N\n)+)*(?:waits CH (?:start|end) N\n)+",
     ("dump", 0): rb"(?:channel N (?:in|out) CH(?: N)*\n)+(?:N gap N\n|N reset\n|N start CH(?: N)* clock(?: N)+\n|N end CH clock(?: N)+\n)*packets N\n",
     ("compare", 0): rb"no divergence\n", ("compare", 7): FINDINGS,
-    ("salvage", 0): rb"salvaged N packets\n", ("wrap", 0): rb"wrapped N channels\n",
+    ("salvage", 0): rb"salvaged N packets\n", ("migrate", 0): rb"migrated N packets\n", ("wrap", 0): rb"wrapped N channels\n",
 }
 
 
@@ -134,6 +135,7 @@ class Base:
             with open(os.path.join(folder, name), "rb") as file:
                 self.files[name] = file.read()
             os.remove(os.path.join(folder, name))
+        self.files["old"] = trace_kit.encoded_old(trace_kit.read(self.files["trace"]))
 
 
 def bases(vidi, folder):

@@ -6,13 +6,14 @@ examples' own.
 - files.case of docs/FILES.md: a file is a block fenced by ```map, ```script or ```stalls, and behind it stands: `vidi run` prints `LINE`,
   or for a plan of stalls `vidi record` prints `LINE`. It takes the place of the file of this name among those of examples/pass.
 - examples.case of examples/: each has design.v, map, script and run.out, and maybe stalls and record.out, which is what `vidi record` and
-  then `vidi dump` print; the bytes of the trace are those of its dump (docs/FILES.md).
+  then `vidi dump` print; the bytes of the trace are those of its dump (docs/FILES.md). With an AXI file it has bursts.out, of `vidi bursts`.
 
 A refused file has the status 4, any other one 0.
 """
 import os
 import re
 
+from vidi_tools import commands
 from vidi_tools import tool_kit
 from vidi_tools import trace_kit
 from vidi_tools.tool_kit import Problem
@@ -89,7 +90,14 @@ def recording(name):
     first, dump = example_file(name, "record.out").split("\n", 1)
     trace = trace_bytes(dump, f"record.out of {name}")
     digits = "".join(f"{trace[at:at + 40].hex()}\n" for at in range(0, len(trace), 40))
-    return f"== {WORDS['record']}\n{ending([first])}>x trace\n{digits}++ dump trace\n{ending(dump.splitlines())}"
+    return f"== {WORDS['record']}\n{ending([first])}>x trace\n{digits}++ dump trace\n{ending(dump.splitlines())}{grouped(name)}"
+
+
+def grouped(name):
+    """The case of the bursts in an example's recording, where it has an AXI file."""
+    if not commands.has("bursts") or not os.path.exists(os.path.join(tool_kit.EXAMPLES, name, "axi")):
+        return ""
+    return f"++ bursts trace axi\n{part('--', 'axi', example_file(name, 'axi'))}{ending(example_file(name, 'bursts.out').splitlines())}"
 
 
 def examples():

@@ -2,7 +2,7 @@
 
     gate memory [EXAMPLE ..] [--only COMMAND] [--most N]
 
-The commands are check, run, record, replay, dump, compare, salvage and wrap on the files of these examples (pass where none is named). Each is
+The commands are check, run, record, replay, dump, compare, salvage, migrate and wrap on the files of these examples (pass where none is named). Each is
 first run whole, and its allocations are counted; then it is run twice for each of them: that one is refused, and that one with all behind it. The
 answer has to be the right one, with its status, its lines and its file, or status 8 with the line `vidi: out of memory` (or without a line where
 the words weren't there yet), and no file. With --most N so many allocations a command are tried at most, spread evenly. It wants a C compiler for
@@ -16,6 +16,7 @@ import sys
 import tempfile
 
 from vidi_tools import tool_kit
+from vidi_tools import trace_kit
 from vidi_tools.tool_kit import Problem
 
 EXAMPLES = os.path.join(tool_kit.HERE, "..", "examples")
@@ -50,7 +51,7 @@ int posix_memalign(void **to, size_t align, size_t size) {
 COMMANDS = {
     "check": ["design.v", "TOP"], "run": ["design.v", "map", "script"], "record": ["design.v", "map", "script", "stalls", "out"],
     "replay": ["design.v", "map", "trace", "300", "out"], "dump": ["trace"], "compare": ["trace", "other"], "salvage": ["broken", "out"],
-    "wrap": ["design.v", "map", "out"],
+    "migrate": ["old", "out"], "wrap": ["design.v", "map", "out"],
 }
 
 
@@ -86,7 +87,9 @@ class Room:
         for plan, file in (("stalls", "trace"), ("wide", "other")):
             self.run(["record", "design.v", "map", "script", plan, file], {})
         with open(os.path.join(folder, "trace"), "rb") as file:
-            self.write("broken", file.read()[:-7])
+            content = file.read()
+        self.write("broken", content[:-7])
+        self.write("old", trace_kit.encoded_old(trace_kit.read(content)))
 
     def write(self, name, content):
         """Writes a file."""

@@ -18,6 +18,7 @@ import os
 import re
 
 from vidi_tools import bench_kit
+from vidi_tools import icarus_rows
 from vidi_tools import port_kit
 from vidi_tools import store_kit
 from vidi_tools import tool_kit
@@ -33,6 +34,8 @@ def steps_of(path, plan):
         numbers = [tool_kit.number(word) for word in words[2:]]
         if words[:1] == ["cycles"] and cycles is None and len(words) == 2:
             cycles = tool_kit.number(words[1])
+        elif icarus_rows.is_reset(words):
+            raise Problem(f"{path} line {line}: a reset in mid-run, and a bench plays none")
         elif words and (cycles is None or words[0] not in steps):
             raise Problem(f"{path} line {line}: no line of a script of this map: {text.strip()}")
         elif words:

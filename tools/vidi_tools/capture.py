@@ -8,7 +8,8 @@ WAVES is a VCD, one packed by gzip, or an FST (by fst2vcd of Debian's gtkwave); 
 it, such as bench.dut; MAP names its ports. A cycle is a rising edge of the map's clock outside reset; its values are those just before the
 edge. With --each-step it is each time step: the samples of a logic analyser, which have no clock. What comes before the first reset, or
 with --from N before the reset number N, is left out; where a valid is 1 there, that is said. Refused with the time, and nothing is
-written: an x or z at a valid, a ready or the reset, a tied port that isn't at its number, a reset that comes again. A valid that is taken
+written: an x or z at a valid, a ready or the reset, a tied port that isn't at its number, a reset that comes again, which with --resets is a packet of
+the trace. A valid that is taken
 back, or a content that changes before it is taken, is said; the capture ends there, of an outward channel with the cycle in which vidi run says
 unstable. Where the other polarity of the reset would give more cycles, that is said with their number. Said too: x bits of a content, which
 count as 0; a content that isn't 0 beside a valid that is 0, where Vidi shows 0; a reset that never acts; more than 65,535 cycles without an
@@ -33,6 +34,7 @@ class Sampler:
     def __init__(self, waves, plan, options):
         self.waves, self.plan, self.options = waves, plan, options
         self.notes, self.unseen, self.times, self.cycles, self.unstable = [], {}, [], 0, None
+        self.fresh, self.is_fresh = [], False  # the cycles behind a reset that comes again, and whether the next one is
         if options.step and plan.reset and plan.reset[0] not in waves.codes:
             self.notes.append(f"no {plan.reset[0]} in these waves: Vidi's run begins behind a reset, so it is another one")
             self.plan.reset = None
@@ -104,9 +106,12 @@ class Sampler:
         yield from early
 
     def until_reset(self, cycles, held):
-        """The cycles, as long as nobody asks for one that is in reset again."""
+        """The cycles, as long as nobody asks for one that is in reset again; with --resets those outside reset."""
         name, active, _ = self.plan.reset
         for at, (time, values) in enumerate(cycles):
+            if self.bit(values, name, time) == active and self.options.resets:
+                self.is_fresh = True
+                continue
             if self.bit(values, name, time) == active:
                 held += 1 + sum(values[name][-1] == str(active) for _, values in cycles)
                 again = f"cut the waves before it with --cycles {at}, or begin behind it with --from {self.options.first + 1}"
@@ -129,7 +134,9 @@ class Sampler:
         """The rows, so many at most, up to the first in which a channel takes back what it showed."""
         row = None
         for cycle, (time, values) in enumerate(itertools.islice(self.behind_reset(), most)):
-            old, row = row, self.row(values, time, cycle)
+            old, row = None if self.is_fresh else row, self.row(values, time, cycle)
+            self.fresh.extend([cycle] * self.is_fresh)
+            self.is_fresh = False
             broken = self.taken_back(old, row) if old else None
             if broken:
                 channel, what = broken
@@ -144,7 +151,9 @@ class Sampler:
 
     def all_notes(self):
         """The notes, those too that are counted to the end."""
-        return self.notes + [f"{port} isn't 0 in {count} {'cycle' if count == 1 else 'cycles'} in which {valid} is 0; Vidi shows 0 there"
+        resets = [f"resets that come again, {len(self.fresh)} of them, are packets of the trace: in Vidi such a reset brings all state back, memories "
+                  "too"] * bool(self.fresh)
+        return self.notes + resets + [f"{port} isn't 0 in {count} {'cycle' if count == 1 else 'cycles'} in which {valid} is 0; Vidi shows 0 there"
                              for (valid, port), count in self.unseen.items() if count]
 
 
@@ -196,21 +205,23 @@ def script_of(plan, rows, cycles, notes):
     return "\n".join(lines) + "\n"
 
 
-def events(plan, rows):
-    """For each row its starts with contents by name, and the names of those that end."""
+def events(plan, rows, fresh=()):
+    """For each row its starts with contents by name, the names of those that end, and whether the design was reset before it."""
     flying = set()
-    for row in rows:
+    for cycle, row in enumerate(rows):
+        is_fresh = cycle in fresh[-1:]
+        flying = set() if is_fresh else flying
         shown = {channel.name: signals for channel, signals in zip(plan.channels, row)}
         started = {name: content for name, (valid, _, content) in shown.items() if valid and name not in flying}
         ended = [name for name, (valid, ready, _) in shown.items() if valid and ready]
         flying = {name for name, (valid, ready, _) in shown.items() if valid and not ready}
-        yield started, ended
+        yield started, ended, is_fresh
 
 
-def trace_of(plan, rows, widths, notes):
+def trace_of(plan, rows, widths, notes, fresh):
     """The bytes of the trace. Of a gap that is too long for a trace its most is kept, which is said."""
     table = [trace_kit.Table(channel.name, channel.is_inward, [widths[port] for port in channel.ports]) for channel in plan.channels]
-    packets = trace_kit.packets_of(events(plan, rows))
+    packets = trace_kit.packets_of(events(plan, rows, fresh))
     for number, packet in enumerate(packets):
         if packet.gap > trace_kit.MOST_GAP:
             notes.append(f"nothing in {packet.gap} cycles before packet {number}; the trace has {trace_kit.MOST_GAP} of them, the most")
@@ -225,7 +236,7 @@ def compared(options, sampler, rows):
         raise Problem(f"{options.out} is written; vidi run of it on {options.check}: {said.strip()}")
     length, ours, theirs = len(sampler.times), {}, {}
     for cycle, row in enumerate(events(sampler.plan, rows)):
-        ours[cycle] = tool_kit.lines_of_row(cycle, *row)
+        ours[cycle] = tool_kit.lines_of_row(cycle, *row[:2])
     if sampler.unstable:
         ours[length] = [f"vidi: unstable {sampler.unstable} cycle {length}"]
     for line in said.splitlines()[:-1 if status == 0 else None]:
@@ -250,6 +261,7 @@ def parser():
     said.add_argument("--trace", metavar="OUT", help="write a trace to OUT, of any length")
     said.add_argument("--cycles", type=int, default=None, help=f"so many cycles at most; of a script 1 to {LONGEST:,}")
     said.add_argument("--from", dest="first", type=int, default=1, metavar="N", help="begin behind the reset number N (1)")
+    said.add_argument("--resets", action="store_true", help="a reset that comes again is a packet of the trace; for --trace alone")
     said.add_argument("--each-step", dest="step", type=int, nargs="?", const=1, metavar="N",
                       help="a cycle is each step of N time units (1), and not an edge of the clock")
     said.add_argument("--check", metavar="DESIGN", help="play the script on this text of the subset and compare with the waves; wants -o")
@@ -264,6 +276,8 @@ def refuse_words(options):
     for word, value in (("--from", options.first), ("--each-step", options.step)):
         if value is not None and value < 1:
             raise Problem(f"{word} is {value}, not 1 or more")
+    if options.resets and is_script:
+        raise Problem("--resets is for a trace: a script's sends go on over a reset, and those of a bench may not; say --trace OUT, and no -o")
     if options.check and not options.out:
         raise Problem("--check plays the script that is written: say -o OUT too")
     return is_script
@@ -282,7 +296,7 @@ def main():
         if sampler.cycles > LONGEST:
             raise Problem(f"{options.waves} has more than {LONGEST} cycles, the most of a script: capture a part with --cycles, begin at a later "
                           "reset with --from, or make a trace with --trace, which has no limit")
-    trace = trace_of(plan, rows, waves.widths, sampler.notes) if options.trace else None
+    trace = trace_of(plan, rows, waves.widths, sampler.notes, sampler.fresh) if options.trace else None
     script = script_of(plan, rows, sampler.cycles, sampler.notes) if is_script else None
     for path, content in ((options.trace, trace), (options.out, script)):
         if path:

@@ -17,6 +17,9 @@ VIDI = [Command(*one) for one in (
     ("dump", "trace", "lists channels, events, contents, vector clocks"),
     ("compare", "trace other", "says where OTHER parts from TRACE"),
     ("salvage", "trace OUT", "writes what is whole of a broken trace"),
+    ("migrate", "trace OUT", "writes an old trace in today's bytes"),
+    ("bursts", "trace axi", "groups a trace's transactions into the bursts of AXI4"),
+    ("move", "trace CH J SIDE CH K OUT", "writes a trace with one completion right before, or after, another one"),
     ("wrap", "design map OUT", "writes the design with monitors and replayers round it, as Verilog"),
     ("sample", "NUMBER", "records and replays a design made of a number"))]
 
@@ -39,6 +42,11 @@ STATUS = [  # what vidi ends with, in short: docs/FILES.md, "What the commands p
     (0, "the command did what it does"), (1, "the words are no command"), (2, "a file isn't there, or a read of it failed"),
     (3, "a write failed"), (4, "a file is refused, with its reason"), (5, "the design takes back what it showed"),
     (6, "the cycles of a replay didn't suffice"), (7, "two traces differ, or a trace and its replay"), (8, "no memory was found")]
+
+
+def has(name):
+    """Whether vidi has this command."""
+    return any(one.name == name for one in VIDI)
 
 
 def listed(commands, program):

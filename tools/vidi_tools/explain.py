@@ -1,16 +1,23 @@
-"""Says where two traces part, or why a run is unstable.
+"""Says where two traces part, why a run is unstable, which rule of AXI4 a trace breaks, or what blocks a move.
 
     explain A B                        each finding of `vidi compare A B`, with both packets, both values and the transactions round it:
                                        the first in time, then the others by channel, then those that only come early
     explain --run DESIGN MAP SCRIPT    of an unstable run the pin that changed, from what to what (Icarus plays the design)
+    explain --axi TRACE AXI            of the rule that `vidi bursts TRACE AXI` finds broken the address, the beats and their packets
+    explain --move TRACE CH J before CH K      or after: what blocks `vidi move` of these words, and how far the completion may go
 
-Status 0 where there is nothing to explain, 7 where the traces part, 5 where the run is unstable.
+Status 0 where there is nothing to explain, 7 where the traces part, 5 where the run is unstable, 4 where a rule is broken or a move blocked.
 """
 import argparse
+import os
+import re
 import sys
 import tempfile
 
+from vidi_tools import axi_kit
+from vidi_tools import move_kit
 from vidi_tools import tool_kit
+from vidi_tools import trace_kit
 from vidi_tools.tool_kit import Problem
 
 AROUND = 2
@@ -197,18 +204,60 @@ def explain_run(options):
     return 5
 
 
+def explain_bursts(options):
+    """Explains the broken rule of AXI4's bursts."""
+    text, status = tool_kit.vidi("bursts", *options.words)
+    last = text.splitlines()[-1]
+    broken = re.fullmatch(r"vidi: refused trace: (broken rule .*)", last)
+    if status and not broken:
+        raise Problem(last)
+    found = next(axi_kit.Reader(trace_kit.read_file(options.words[0]), axi_kit.AxiFile(options.words[1])).findings(), None)
+    if (found.line if found else None) != (broken[1] if broken else None):
+        raise Problem(f"vidi says {last}, the tool's own reader {found.line if found else 'no broken rule'}")
+    print("\n".join([f"{last}: {found.why[0]}", *found.why[1:]]) if found else f"{last}: no rule is broken")
+    return status
+
+
+def explain_move(options):
+    """Explains what blocks a move."""
+    with tempfile.TemporaryDirectory() as folder:
+        text, status = tool_kit.vidi("move", *options.words, os.path.join(folder, "out"))
+    last = text.splitlines()[-1]
+    if status not in (0, 4):
+        raise Problem(last)
+    move = move_kit.Move(trace_kit.read_file(options.words[0]), options.words[1:])
+    walls = move.blocked()
+    if last.startswith("vidi: refused trace: blocked") != bool(walls) or walls and last != f"vidi: refused trace: blocked by packet {walls[0][0]}":
+        raise Problem(f"vidi says {last}, and the tool finds {walls[0] if walls else 'nothing that blocks'}")
+    stays = "the trace stays as it is" if move.stays() else f"it goes from packet {move.packet} to one of its own {move.way} packet {move.goal}"
+    print(f"{last}: {walls[0][1] if walls else 'both are one completion' if status else stays}")
+    for at, why in walls:
+        print(f"  packet {at}: {move_kit.events_of(move.trace.packets[at])}" + f"; {why}" * (at != walls[0][0]))
+    if walls:
+        print(f"  not blocked: {move.furthest() or f'no completion of {move.other} lies between'}")
+    return status
+
+
+# For each kind the words that it wants, how many they are, and how many of them are files.
+WANTED = {"run": ("DESIGN MAP SCRIPT", 3, 3), "axi": ("TRACE AXI", 2, 2), "move": ("TRACE CH J before CH K, or after", 6, 1), None: ("two traces A B", 2, 2)}
+EXPLAINS = {"run": explain_run, "axi": explain_bursts, "move": explain_move, None: explain_traces}
+
+
 def main():
-    """Explains traces or a run."""
+    """Explains traces, a run, bursts or a move."""
     parser = argparse.ArgumentParser(description=__doc__, formatter_class=argparse.RawDescriptionHelpFormatter)
-    parser.add_argument("--run", action="store_true", help="explain a run and not two traces")
+    parser.add_argument("--run", dest="kind", action="store_const", const="run", help="explain a run and not two traces")
+    parser.add_argument("--axi", dest="kind", action="store_const", const="axi", help="explain a broken rule of AXI4's bursts")
+    parser.add_argument("--move", dest="kind", action="store_const", const="move", help="explain what blocks a move")
     parser.add_argument("--most", type=int, default=5, metavar="N", help="how many findings are explained (5)")
-    parser.add_argument("words", metavar="FILE", nargs="+", help="A B, or with --run DESIGN MAP SCRIPT")
+    parser.add_argument("words", metavar="FILE", nargs="+", help="A B, or the words behind --run, --axi or --move")
     options = tool_kit.parse_options(parser)
-    if len(options.words) != (3 if options.run else 2):
-        raise Problem("wants DESIGN MAP SCRIPT" if options.run else "wants two traces A B")
-    for path in options.words:
+    wanted, count, files = WANTED[options.kind]
+    if len(options.words) != count:
+        raise Problem(f"wants {wanted}")
+    for path in options.words[:files]:
         try:
             open(path, "rb").close()
         except OSError as error:
             raise Problem(f"{path}: {error.strerror}") from error
-    sys.exit(explain_run(options) if options.run else explain_traces(options))
+    sys.exit(EXPLAINS[options.kind](options))

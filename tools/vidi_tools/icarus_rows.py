@@ -7,15 +7,24 @@ Icarus (iverilog and vvp) runs the design: a bench reads the pins of each cycle,
 This file plays the script and the gates, and makes the rows, with lists and counts of its own. It trusts its files: it refuses nothing.
 
 Vidi has no x: registers and memories start at 0. So the copy that Icarus runs has SystemVerilog's `bit` for `reg`, which starts at 0,
-a loop that sets each memory to 0, and `always_comb` for `always @*`, which also runs once at the start.
+a loop that sets each memory to 0, and `always_comb` for `always @*`, which also runs once at the start. At a reset in mid-run the simulation is begun
+anew, and so is the map's reset.
 """
+import collections
 import os
 import re
 import subprocess
 import sys
 import tempfile
 
+from vidi_tools import tool_kit
 from vidi_tools import trace_kit
+
+RESET_BYTES = 3
+
+
+# A row: what starts, with its content, the names of those that end, and whether the design was reset before it.
+Row = collections.namedtuple("Row", "starts ends is_fresh", defaults=(False,))
 
 
 def lines(path):
@@ -25,6 +34,16 @@ def lines(path):
 
 def number(word):
     return int(word, 16) if word.startswith("0x") else int(word)
+
+
+def is_reset(words):
+    """Whether a line of a script is `reset at T`, whatever channel is called reset."""
+    return words[:2] == ["reset", "at"]
+
+
+def times_of(script):
+    """When the script asks for resets."""
+    return [number(words[2]) for words in script if is_reset(words)]
 
 
 class Map:
@@ -98,10 +117,34 @@ class Design:
         built = subprocess.run(["iverilog", "-g2012", "-s", "bench", "-o", program, source], capture_output=True, text=True)
         if built.returncode:
             sys.exit(built.stderr)
-        self.run = subprocess.Popen(["vvp", "-n", program], stdin=subprocess.PIPE, stdout=subprocess.PIPE, text=True)
-        self.plan = plan
+        self.begin(program, plan)
+
+    def begin(self, program, plan):
+        """Runs the program, which prints the widths first."""
+        self.run = subprocess.Popen(["vvp", "-n", program], stdin=subprocess.PIPE, stdout=subprocess.PIPE, stderr=subprocess.DEVNULL, text=True)
+        self.program, self.plan = program, plan
         widths = iter(map(int, self.run.stdout.readline().split()))
         self.widths = {name: [next(widths) for _ in ports] for name, *_, ports in plan.channels}
+
+    def close(self):
+        """Ends the simulator."""
+        self.run.stdin.close()
+        self.run.wait()
+        self.run.stdout.close()
+
+    def reset(self, base):
+        """Passes the map's reset cycles; `base` then has its inactive value."""
+        if self.plan.reset:
+            port, active, count = self.plan.reset
+            for _ in range(count):
+                self.cycle({**base, port: active})
+            base[port] = 1 - active
+
+    def restart(self, base):
+        """Begins the simulation anew, with its reset cycles."""
+        self.close()
+        self.begin(self.program, self.plan)
+        self.reset(base)
 
     def cycle(self, pins):
         """The outputs under these pins, all others 0; then the clock rises."""
@@ -142,23 +185,32 @@ class Player:
 
 
 class Room:
-    """The store, and the channels whose gate is up. All is added up anew in each row."""
+    """The store, the channels whose gate is up, and the permit to reset, which is asked for where the script has resets. All is added up anew in
+    each row."""
 
-    def __init__(self, widths, path):
+    def __init__(self, widths, path, has_resets=False):
         (_, capacity), *drains = lines(path)
         self.capacity, self.used, self.up = number(capacity), 0, set(widths)
+        self.mark, self.permit, self.drained = RESET_BYTES if has_resets else 0, True, []
         self.drains = [amount for _, amount, count in drains for _ in range(number(count))] or ["all"]
         self.head = 3 + 2 * -(-len(widths) // 8)
         self.content = {name: sum(-(-width // 8) for width in ports) for name, ports in widths.items()}
 
-    def pass_row(self, cycle, starts, ends, flying):
-        """The row of this cycle has these starts and ends, and leaves these channels in flight."""
-        waiting = self.used + (self.head + sum(self.content[name] for name in starts) if starts or ends else 0)
+    def need(self):
+        """The least capacity."""
+        return sum(2 * self.head + size for size in self.content.values()) + self.mark
+
+    def pass_row(self, cycle, starts, ends, flying, is_left=False):
+        """The row of this cycle has these starts and ends, and leaves these channels in flight; a reset may come behind it."""
+        waiting = self.used + (self.head + sum(self.content[name] for name in starts) if starts or ends else 0) + RESET_BYTES * is_left
         amount = self.drains[cycle % len(self.drains)]
         self.used = 0 if amount == "all" else waiting - min(number(amount), waiting)
+        self.drained.append(waiting - self.used)
         whole = {name: 2 * self.head + size for name, size in self.content.items()}
-        up = {name for name in self.up if name not in ends}
+        up = {name for name in self.up if name not in ends and not (is_left and flying[name])}
         claimed = self.used + sum(self.head if flying[name] else whole[name] for name in up)
+        self.permit = self.permit and not is_left or claimed + self.mark <= self.capacity
+        claimed += self.mark * self.permit
         for name in whole:
             if name not in up and claimed + whole[name] <= self.capacity:
                 up.add(name)
@@ -167,12 +219,13 @@ class Room:
 
 
 class AllUp:
-    """Without a store all gates stay up."""
+    """Without a store all gates stay up, and so does the permit."""
+    permit = True
 
     def __init__(self, widths):
         self.up = set(widths)
 
-    def pass_row(self, cycle, starts, ends, flying):
+    def pass_row(self, cycle, starts, ends, flying, is_left=False):
         pass
 
 
@@ -211,39 +264,38 @@ def row_of(plan, design, players, ends, base, up):
 
 
 def play(plan, design, script, room):
-    """The rows as (starts with contents, ends), the channel on which the next one is unstable, and what each row shows, that one too."""
-    cycles = number(script[0][1])
-    players = {name: Player([words for own, *words in script[1:] if own == name]) for name, *_ in plan.channels}
+    """The rows, the channel on which the next one is unstable, and what each row shows, that one too."""
+    cycles, times, resets = number(script[0][1]), times_of(script), 0
+    players = {name: Player([words for own, *words in script[1:] if own == name and not is_reset([own, *words])]) for name, *_ in plan.channels}
     ends, flying, shown_rows, rows = {name: 0 for name in players}, {name: False for name in players}, [], []
-    base = dict(plan.ties)
-    if plan.reset:
-        port, active, count = plan.reset
-        for _ in range(count):
-            design.cycle({**base, port: active})
-        base[port] = 1 - active
+    base, is_fresh = dict(plan.ties), False
+    design.reset(base)
     for cycle in range(cycles):
         row = row_of(plan, design, players, ends, base, room.up)
-        unstable = first_unstable(plan.channels, row, shown_rows[-1] if shown_rows else None)
+        unstable = first_unstable(plan.channels, row, shown_rows[-1] if shown_rows and not is_fresh else None)
         shown_rows.append(row)
         if unstable:
             return rows, unstable, shown_rows
         started = {name: shown[2] for name, shown in row.items() if shown[0] and shown[3] and not flying[name]}
         ended = [name for name, shown in row.items() if completes(shown)]
-        rows.append((started, ended))
+        rows.append(Row(started, ended, is_fresh))
         for name, shown in row.items():
             ends[name] += name in ended
             flying[name] = bool(shown[0] and shown[3]) and name not in ended
             players[name].seen(name in ended)
-        room.pass_row(cycle, started, ended, flying)
+        is_fresh = cycle + 1 < cycles and resets < len(times) and times[resets] <= cycle + 1 and room.permit
+        room.pass_row(cycle, started, ended, flying, is_fresh)
+        if is_fresh:
+            design.restart(base)
+            flying, resets = {name: False for name in players}, resets + 1
     return rows, None, shown_rows
 
 
 def text_of_rows(rows, unstable):
     """The lines of `vidi run` of these rows."""
     said = []
-    for cycle, (started, ended) in enumerate(rows):
-        said += [" ".join(map(str, (cycle, "start", name, *content))) for name, content in started.items()]
-        said += [f"{cycle} end {name}" for name in ended]
+    for cycle, (started, ended, is_fresh) in enumerate(Row(*row) for row in rows):
+        said += [f"{cycle} reset"] * is_fresh + tool_kit.lines_of_row(cycle, started, ended)
     said.append(f"vidi: unstable {unstable} cycle {len(rows)}" if unstable else f"cycles {len(rows)}")
     return "\n".join(said) + "\n"
 
@@ -265,7 +317,7 @@ def main():
     path, plan, script = sys.argv[1], Map(sys.argv[2]), lines(sys.argv[3])
     with tempfile.TemporaryDirectory() as folder:
         design = Design(path, plan, folder)
-        room = Room(design.widths, sys.argv[4]) if len(sys.argv) > 4 else AllUp(design.widths)
+        room = Room(design.widths, sys.argv[4], bool(times_of(script))) if len(sys.argv) > 4 else AllUp(design.widths)
         rows, unstable, _ = play(plan, design, script, room)
         if len(sys.argv) > 4:
             say_recording(plan, design.widths, rows, unstable)

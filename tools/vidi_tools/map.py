@@ -1,6 +1,6 @@
 """Makes a first map of a design's port names and widths.
 
-    map [-D NAME[=VALUE]] [--param NAME=VALUE] [--sv] [-o OUT] [--script OUT] [--stalls OUT] FILES.. TOP
+    map [-D NAME[=VALUE]] [--param NAME=VALUE] [--sv] [-o OUT] [--script OUT] [--stalls OUT] [--axi OUT [--bus FRONT]] FILES.. TOP
     map --check MAP FILES.. TOP
 
 Channels are found by the names of their handshake: *_valid/*_ready, *_vld/*_rdy, *_v/*_r, *valid/*ready of AXI4, *tvalid/*tready of
@@ -10,7 +10,8 @@ input with a clock's name; the reset is an input with a reset's name, active at 
 has a comment. Where Icarus is installed, the first cycles are tried: a ready that doesn't rise is warned of, and the reset's polarity is
 turned where that helps. A port of several bits that is tied or ignored is warned of too; with -o warnings are also printed on standard
 error. Where no channel is found it is a skeleton, with what was looked for. --script and --stalls write a first script, some numbers sent to
-each channel and all taken, and a plan of stalls, a store that never stalls: enough for a first recording. --check tries in Icarus whether
+each channel and all taken, and a plan of stalls, a store that never stalls: enough for a first recording. --axi writes the AXI file of `vidi
+bursts` for channels with AXI4's names; of several ports, --bus s_axi_ takes the one whose names begin so. --check tries in Icarus whether
 each ready of MAP rises in its first cycles, with its reset and with the other polarity, and writes nothing.
 """
 import argparse
@@ -19,6 +20,7 @@ import re
 import sys
 import tempfile
 
+from vidi_tools import axi_map
 from vidi_tools import tool_kit
 from vidi_tools import trace_kit
 from vidi_tools.tool_kit import Problem
@@ -267,6 +269,8 @@ def parser():
     said.add_argument("-o", dest="out", metavar="OUT", help="write the map to OUT and not to standard output")
     said.add_argument("--script", metavar="OUT", help="write a first script to OUT")
     said.add_argument("--stalls", metavar="OUT", help="write a first plan of stalls to OUT")
+    said.add_argument("--axi", metavar="OUT", help="write the AXI file of vidi bursts to OUT")
+    said.add_argument("--bus", metavar="FRONT", help="what the names of that AXI4 port begin with, where there are several")
     said.add_argument("--check", metavar="MAP", help="try the reset's polarity of this map, and make none")
     said.add_argument("files", metavar="FILES", nargs="+")
     said.add_argument("top", metavar="TOP")
@@ -294,7 +298,8 @@ def main():
     text = "\n".join(lines_of(options.top, clock, how, reset, ports, notes)) + "\n"
     if (options.script or options.stalls) and not ports.channels:
         raise Problem("no channel found, so there is no first script")
-    for path, content in ((options.out, text), (options.script, first_script(ports)), (options.stalls, first_stalls(ports))):
+    axi = axi_map.text_of(ports.channels, ports.widths, options.bus) if options.axi else None
+    for path, content in ((options.out, text), (options.script, first_script(ports)), (options.stalls, first_stalls(ports)), (options.axi, axi)):
         if path:
             tool_kit.write(path, content)
     if not options.out:

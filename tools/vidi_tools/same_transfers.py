@@ -43,11 +43,7 @@ class Found(icarus_rows.Design):
         built = subprocess.run(words, capture_output=True, text=True)
         if built.returncode:
             raise Problem("Icarus: " + (built.stderr.splitlines() or ["failed"])[0].replace(source, "the files"))
-        pipe, quiet = subprocess.PIPE, subprocess.DEVNULL
-        self.run = subprocess.Popen(["vvp", "-n", program], stdin=pipe, stdout=pipe, stderr=quiet, text=True)
-        self.plan = plan
-        widths = iter(map(int, self.run.stdout.readline().split()))
-        self.widths = {name: [next(widths) for _ in ports] for name, *_, ports in plan.channels}
+        self.begin(program, plan)
 
     def cycle(self, pins):
         """The outputs under these pins; an x counts as 0, as it does in Vidi."""
@@ -55,12 +51,6 @@ class Found(icarus_rows.Design):
         self.run.stdin.flush()
         words = self.run.stdout.readline().split()
         return dict(zip(self.plan.outputs, (int(word) if word.isdigit() else 0 for word in words)))
-
-    def close(self):
-        """Ends the simulator."""
-        self.run.stdin.close()
-        self.run.wait()
-        self.run.stdout.close()
 
 
 def some_number(draw, width):

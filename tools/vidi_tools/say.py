@@ -10,11 +10,13 @@ import os
 import re
 import sys
 
+from vidi_tools import axi_kit
 from vidi_tools import commands
 from vidi_tools import tool_kit
 from vidi_tools import trace_kit
 
 COMMANDS = {one.name: one.words for one in commands.VIDI}
+LAWFUL = {"CYCLES": "1 to 50000", "NUMBER": "0 to 6000", "J": "0 to 4294967295", "K": "0 to 4294967295"}
 LOWER = "vidi-tools left-out {path} lists all such places, and vidi-tools lower makes a text of the subset"
 # Each reason, and what to do about it: {path} is the file's name, {place} its line and the text of that, {at} the
 # same with a comma, {0}, {1} what the reason names, and {fault} is
@@ -43,14 +45,23 @@ ADVICE = [
     ("M4 limit channels got (.*)", "{path} has {0} channels, and 1 to 128 are lawful"),
     ("M4 limit ports got (.*)", "{path} has a channel with {0} content ports, and 16 are the most: ignore some, or make two channels"),
     ("M4 limit bytes got (.*)", "{path} has {0} content bytes in all channels, and 2,048 are the most: ignore some"),
-    ("S1 ", "{at} is no line of a script: cycles N first, then CH send N .., CH take N, CH take all, CH wait N, CH after OTHER N"),
+    ("S1 ", "{at} is no line of a script: cycles N first, then CH send N .., CH take N, CH take all, CH wait N, CH after OTHER N, "
+           "reset at T"),
     ("S2 ", "{place}: {fault}"),
     ("S3 ", "{place}: {fault}"),
     ("P1 ", "{at} is no line of a plan: capacity N first (1 to 16,777,216), then drain B K or drain all K, with K from 1 to 50,000"),
     ("too small need (.*) given (.*)", "{path} has a capacity of {1} bytes, and a start and an end of each channel need {0}: write capacity {0}"),
     ("too long, limit (.*)", "{path} has more than {0} bytes: make it shorter"),
+    ("old trace", "{path} is an old trace, of version 1: vidi migrate {path} OUT writes it in today's bytes"),
     ("bad trace at (.*)", "{fault}"),
-    ("reset in packet (.*)", "in {path} the design was reset in packet {0}, and replay plays no trace with a reset yet"),
+    ("reset in packet (.*)", "in {path} the design was reset in packet {0}, and this command takes no trace with a reset"),
+    ("A1 ", "{at} is no line of an AXI file: beat N first, then aw CH ID ADDR LEN SIZE BURST, w CH LAST, b CH ID, ar CH ID ADDR LEN SIZE BURST, r CH ID "
+            "LAST, each once, with places from 0 or none; aw, w and b come together, and so do ar and r"),
+    ("A2 ", "{place}: {fault}"),
+    ("broken rule (.*) (.*) (.*)", "{path} breaks rule {0} of AXI4's bursts at transaction {2} of {1}, counted from 0: vidi-tools explain --axi says why"),
+    ("no end (.*)", "{path} hasn't so many completions of that channel: they count from 0, over the whole trace"),
+    ("same end", "both are one completion of {path}: name another one"),
+    ("blocked by packet (.*)", "packet {0} of {path} blocks it: vidi-tools explain --move with the same words says why, and how far it may go"),
     ("other channels at (.*)", "{path} has other channels from number {0} on: {fault}"),
     ("reserved (.*)", "{path}: the name {0} begins with vidi_, which wrap gives its own modules: rename it"),
     ("wrapped has (.*)", "what wrap makes of {path} is refused by {0}, as it is too big: take channels out of the map"),
@@ -117,6 +128,8 @@ def step_fault(files, words):
     plan = plan_of(files["map"])
     if words[0] == "cycles":
         return "cycles is 1 to 50,000"
+    if words[:2] == ["reset", "at"]:
+        return "a reset comes in row 1 to 49,999, and later than that of the reset line before it"
     channel = next((one for one in plan.channels if one.name == words[0]), None) if plan else None
     names = ", ".join(one.name for one in plan.channels) if plan else "none"
     if channel is None:
@@ -136,13 +149,37 @@ def step_fault(files, words):
     return "wait is 1 to 50,000; take and after are 1 to 4,294,967,295"
 
 
+def is_trace(content):
+    """Whether the bytes are a trace."""
+    try:
+        return bool(trace_kit.read(content))
+    except tool_kit.Problem:
+        return False
+
+
+def axi_fault(files, words):
+    """What is wrong with a line of an AXI file."""
+    role, name, *places = words
+    tables = trace_kit.read_file(files["trace"]).channels
+    widths = next((table.widths for table in tables if table.name == name), None)
+    if widths is None:
+        return f"the trace has no channel {name}; it has {', '.join(table.name for table in tables)}"
+    for word, place in zip(axi_kit.WORDS.get(role, ()), map(tool_kit.number, places)):
+        if place is not None and place >= len(widths):
+            return f"{name} has {len(widths)} content ports, and {word} is port {place}: they count from 0"
+        if place is not None and (axi_kit.WIDTHS.get(word, widths[place]) != widths[place] or widths[place] > axi_kit.MOST.get(word, 128)):
+            wanted = axi_kit.WIDTHS.get(word) or f"at most {axi_kit.MOST[word]}"
+            return f"port {place} of {name} has {widths[place]} bits, and {word} has {wanted}"
+    return f"{name} or one of its ports is named twice, or goes the other way: aw, w and ar one way, b and r the other"
+
+
 def trace_fault(path, whole):
     """What is wrong with the bytes of a trace."""
     content = content_of(path)
     if content[:7] != b"VIDITRC":
         return f"{path} is no trace: it doesn't begin with VIDITRC"
-    if content[:8] == b"VIDITRC1":
-        return f"{path} is an old trace, of version 1, and this program reads version 2"
+    if whole == 0 and is_trace(content):
+        return f"{path} is a trace of version 2 already"
     if whole == 0:
         return f"{path} begins with VIDITRC, but its list of channels isn't whole"
     return f"{path} is whole up to byte {whole} of {len(content)}: vidi salvage {path} OUT writes what is whole"
@@ -186,6 +223,8 @@ def fault_of(files, where, reason, words):
     """What is wrong, as far as the files tell."""
     if reason.startswith("M2"):
         return port_fault(files, words)
+    if reason.startswith("A2"):
+        return axi_fault(files, words)
     if reason.startswith(("S2", "S3")):
         return step_fault(files, words)
     if reason.startswith("M3"):
@@ -218,12 +257,13 @@ def misused(words):
     if len(words) - 1 != len(own):
         return f"{words[0]} takes {len(own)} words, {' '.join(own).upper()}, and {len(words) - 1} stand there"
     for word, given in zip(own, words[1:]):
-        if word in ("CYCLES", "NUMBER"):
-            most = "1 to 50000" if word == "CYCLES" else "0 to 6000"
-            low, high = (int(number) for number in most.split(" to "))
+        if word in LAWFUL:
+            low, high = (int(number) for number in LAWFUL[word].split(" to "))
             if not re.fullmatch("[0-9]+", given) or not low <= int(given) <= high:
-                return f"{word} is {given}, and {most} is lawful"
-    if "OUT" in own and words[1 + own.index("OUT")] in [given for word, given in zip(own, words[1:]) if word != "OUT"]:
+                return f"{word} is {given}, and {LAWFUL[word]} is lawful"
+        if word == "SIDE" and given not in ("before", "after"):
+            return f"SIDE is {given}, and before or after is lawful"
+    if "OUT" in own and words[1 + own.index("OUT")] in [given for word, given in zip(own, words[1:]) if word.islower()]:
         return f"{words[1 + own.index('OUT')]} would be read and written: name another file for OUT"
     return "a word isn't UTF-8"
 

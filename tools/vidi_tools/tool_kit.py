@@ -44,6 +44,11 @@ def examples(folder=EXAMPLES):
     return sorted(entry.name for entry in os.scandir(folder) if entry.is_dir())
 
 
+def has_resets(name):
+    """Whether the script of an example asks for resets in mid-run."""
+    return any(line.split()[:2] == ["reset", "at"] for line in text_of(os.path.join(EXAMPLES, name, "script")).splitlines())
+
+
 def write(path, content):
     """Writes a text or bytes to a file in one go."""
     try:

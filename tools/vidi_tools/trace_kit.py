@@ -128,7 +128,7 @@ def ended(content):
             whole, count = source.at, count + 1
     except Problem:
         pass
-    return content[:whole] + b"\0" + count.to_bytes(4, "big"), count
+    return content[:whole] + end_mark(count), count
 
 
 def read_file(path):
@@ -143,9 +143,13 @@ def read_file(path):
 
 
 def packets_of(rows):
-    """The packets of rows, which are (starts with contents by name, names of those that end): one of each row with an event."""
+    """The packets of rows, which are (starts with contents by name, names of those that end, and maybe whether the row is the first behind a reset):
+    one of each reset and of each row with an event."""
     found, end = [], 0
-    for cycle, (starts, ends) in enumerate(rows):
+    for cycle, (starts, ends, *is_fresh) in enumerate(rows):
+        if any(is_fresh):
+            found.append(Packet({}, [], cycle - end, True))
+            end = cycle
         if starts or ends:
             found.append(Packet(starts, ends, cycle - end))
             end = cycle + 1
@@ -160,17 +164,32 @@ def header(channels):
     return table
 
 
+def packet_bytes(channels, packet):
+    """The bytes of a packet."""
+    out, size = bytearray([RESET if packet.is_reset else ROW]) + packet.gap.to_bytes(2, "big"), (len(channels) + 7) // 8
+    for names in () if packet.is_reset else (packet.starts, packet.ends):
+        out += sum(1 << at for at, channel in enumerate(channels) if channel.name in names).to_bytes(size, "little")
+    for channel in channels:
+        for width, value in zip(channel.widths, packet.starts.get(channel.name, [])):
+            out += value.to_bytes((width + 7) // 8, "big")
+    return bytes(out)
+
+
+def end_mark(count):
+    """The bytes behind so many packets."""
+    return b"\0" + count.to_bytes(4, "big")
+
+
 def encoded(channels, packets):
     """The bytes of a trace with these channels and packets."""
-    out, size = bytearray(header(channels)), (len(channels) + 7) // 8
-    for packet in packets:
-        out += bytes([RESET if packet.is_reset else ROW]) + packet.gap.to_bytes(2, "big")
-        for names in () if packet.is_reset else (packet.starts, packet.ends):
-            out += sum(1 << at for at, channel in enumerate(channels) if channel.name in names).to_bytes(size, "little")
-        for channel in channels:
-            for width, value in zip(channel.widths, packet.starts.get(channel.name, [])):
-                out += value.to_bytes((width + 7) // 8, "big")
-    return bytes(out + b"\0" + len(packets).to_bytes(4, "big"))
+    return header(channels) + b"".join(packet_bytes(channels, packet) for packet in packets) + end_mark(len(packets))
+
+
+def encoded_old(trace):
+    """The bytes of a trace in version 1, which has neither gaps nor resets."""
+    empty = encoded(trace.channels, [])
+    packets = [encoded(trace.channels, [one])[len(empty) - 5:-5] for one in trace.packets]
+    return OLD_MAGIC + empty[len(MAGIC):-5] + b"".join(one[:1] + one[3:] for one in packets) + b"\0" + len(packets).to_bytes(4, "big")
 
 
 def lines_of(trace):
@@ -198,6 +217,17 @@ def drawn(draw, channels, count):
         flying = (flying | set(started)) - set(ended)
         packets += [Packet(started, ended, draw.choice([0, 0, 0, 1, 300, MOST_GAP]))] if started or ended else []
     return packets
+
+
+def epochs_of(packets):
+    """The packets in parts, between one reset and the next."""
+    parts = [[]]
+    for packet in packets:
+        if packet.is_reset:
+            parts.append([])
+        else:
+            parts[-1].append(packet)
+    return parts
 
 
 def covered(clock, have):

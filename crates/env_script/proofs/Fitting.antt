@@ -22,16 +22,19 @@ use Rattle.env_script.specs.declared.error.ScriptError.TheVariants as E
 use Rattle.env_script.specs.declared.gathered.Gathered.{Gathered}
 use Rattle.env_script.specs.declared.said.Said.{Said}
 use Rattle.env_script.specs.declared.said.Said.TheVariants.{Send, Take, TakeAll, Wait, After}
-use Rattle.env_script.specs.declared.said.StepLine.{StepLine}
+use Rattle.env_script.specs.declared.said.ScriptLine.{ScriptLine}
+use Rattle.env_script.specs.declared.said.ScriptLine.TheVariants as L
 use Rattle.env_script.specs.declared.script.Step.{Step}
 use Rattle.env_script.specs.declared.script.Step.TheVariants as S
 use Rattle.env_script.specs.declared.script.Script.{Script}
 use Rattle.env_script.specs.Reasons.{channel_at, is_inward, suits, suits_channel, names_channels, is_small, fits_ports}
 use Rattle.env_script.specs.Reasons.{fits_content}
-use Rattle.env_script.specs.Reasons.{fits_channel, fits_numbers, channel_faults, number_faults, later_faults}
+use Rattle.env_script.specs.Reasons.{fits_channel, fits_numbers, channel_faults, is_time, faults_after, number_faults, later_faults}
 use Rattle.env_script.specs.Reads.{is_lawful, IsGathered, Finishes, IsFirstLine}
 use Rattle.env_script.specs.Fits.{steps_of, StepFits}
-use Rattle.env_script.specs.Steps.{made, is_of, steps_for}
+use Rattle.env_script.specs.Steps.{made, is_of, steps_for, times_of}
+use Rattle.env_script.specs.Resets.{AreTimes}
+use Rattle.env_script.proofs.Gathering.{told-none, are-times}
 
 -- ---- the tests as facts
 
@@ -122,27 +125,28 @@ of_more channels channel c (Some d) said steps true of at lawful rest =
     more_fit channels channel (made said) steps
     (λ step is. line_fits channels channel (slice_get channels d) said step (ap (slice_get channels) (sym same) ∙ at) lawful is) rest
 
-steps_fit : (channels : List Channel) (channel : Channel) (c : ℕ) (lines : List StepLine) → slice_get channels c ≡ Some channel
+steps_fit : (channels : List Channel) (channel : Channel) (c : ℕ) (lines : List ScriptLine) → slice_get channels c ≡ Some channel
     → list_all (is_lawful channels) lines ≡ true → AllFit channels channel (steps_for c lines)
 steps_fit channels channel c [] at lawful = none_fit channels channel
-steps_fit channels channel c (l ∷ lines) at lawful =
+steps_fit channels channel c (L.Step l ∷ lines) at lawful =
     of_more channels channel c l.channel l.said (steps_for c lines) (is_of c l.channel) refl at
-    (left_of (is_lawful channels l) _ lawful)
-    (steps_fit channels channel c lines at (right_of (is_lawful channels l) _ lawful))
+    (left_of (is_lawful channels (L.Step l)) _ lawful)
+    (steps_fit channels channel c lines at (right_of (is_lawful channels (L.Step l)) _ lawful))
+steps_fit channels channel c (L.Reset line time ∷ lines) at lawful = steps_fit channels channel c lines at lawful
 
 -- ---- without a fault each line is lawful
 
-told_none : (b : Bool) (n : ℕ) (rest : List ℕ) → told_if (not b) n ++ rest ≡ [] → (b ≡ true) × (rest ≡ [])
-told_none true n rest e = (refl, e)
-told_none false n rest e = let off : n ∷ rest ≡ [] = e in absurd (cc)
-
-all_lawful : (channels : List Channel) (lines : List StepLine) → channel_faults channels lines ≡ [] → number_faults channels lines ≡ []
-    → list_all (is_lawful channels) lines ≡ true
-all_lawful channels [] names numbers = refl
-all_lawful channels (l ∷ lines) names numbers =
-    let n = told_none (names_channels channels l) l.line (channel_faults channels lines) names in
-    let f = told_none (fits_numbers channels l) l.line (number_faults channels lines) numbers in
-    and_from (is_lawful channels l) _ (and_from (names_channels channels l) _ n.0 f.0) (all_lawful channels lines n.1 f.1)
+all_lawful : (channels : List Channel) (before : ℕ) (lines : List ScriptLine) → channel_faults channels lines ≡ []
+    → faults_after channels before lines ≡ [] → list_all (is_lawful channels) lines ≡ true
+all_lawful channels before [] names numbers = refl
+all_lawful channels before (L.Step l ∷ lines) names numbers =
+    let n = told-none (names_channels channels l) l.line (channel_faults channels lines) names in
+    let f = told-none (fits_numbers channels l) l.line (faults_after channels before lines) numbers in
+    and_from (is_lawful channels (L.Step l)) _ (and_from (names_channels channels l) _ n.0 f.0)
+    (all_lawful channels before lines n.1 f.1)
+all_lawful channels before (L.Reset line time ∷ lines) names numbers =
+    let f = told-none (is_time before time) line (faults_after channels time lines) numbers in
+    all_lawful channels time lines names f.1
 
 -- ---- the answer at the end
 
@@ -160,58 +164,61 @@ channel_error m = E.Channel m
 abbrev number_error : ℕ → ScriptError
 number_error m = E.Number m
 
-abbrev numbers_at_fault : List Channel → ℕ → ℕ → List StepLine → List ℕ
+abbrev numbers_at_fault : List Channel → ℕ → ℕ → List ScriptLine → List ℕ
 numbers_at_fault channels n cycles lines = told_if (not (between 1 MOST_CYCLES cycles)) n ++ number_faults channels lines
 
 -- behind channels without a fault the first fault is that of the numbers
-behind : (channels : List Channel) (n cycles : ℕ) (lines : List StepLine) → channel_faults channels lines ≡ []
+behind : (channels : List Channel) (n cycles : ℕ) (lines : List ScriptLine) → channel_faults channels lines ≡ []
     → later_faults channels n cycles lines ≡ map number_error (numbers_at_fault channels n cycles lines)
 behind channels n cycles lines none = ap (λ xs. map channel_error xs ++ map number_error (numbers_at_fault channels n cycles lines)) none
 
-pub channel_refused : (channels : List Channel) (n cycles : ℕ) (lines : List StepLine) (line : ℕ)
+pub channel_refused : (channels : List Channel) (n cycles : ℕ) (lines : List ScriptLine) (line : ℕ)
     → Some line ≡ first (channel_faults channels lines) → Finishes channels n cycles lines (Err (E.Channel line))
 channel_refused channels n cycles lines line e = first_told channel_error (channel_faults channels lines) _ line e
 
-number_first : (channels : List Channel) (n cycles : ℕ) (lines : List StepLine) (line : ℕ)
+number_first : (channels : List Channel) (n cycles : ℕ) (lines : List ScriptLine) (line : ℕ)
     → None ≡ first (channel_faults channels lines)
     → Some line ≡ first (numbers_at_fault channels n cycles lines) → Finishes channels n cycles lines (Err (E.Number line))
 number_first channels n cycles lines line none e =
     ap first (behind channels n cycles lines (none_told _ none) ∙ sym (append-nil _))
     ∙ first_told number_error (numbers_at_fault channels n cycles lines) [] line e
 
-pub cycles_refused : (channels : List Channel) (n cycles : ℕ) (lines : List StepLine)
+pub cycles_refused : (channels : List Channel) (n cycles : ℕ) (lines : List ScriptLine)
     → None ≡ first (channel_faults channels lines)
     → between 1 MOST_CYCLES cycles ≡ false → Finishes channels n cycles lines (Err (E.Number n))
 cycles_refused channels n cycles lines none e =
     number_first channels n cycles lines n none (ap (λ b. first (told_if (not b) n ++ number_faults channels lines)) (sym e))
 
-pub number_refused : (channels : List Channel) (n cycles : ℕ) (lines : List StepLine) (line : ℕ)
+pub number_refused : (channels : List Channel) (n cycles : ℕ) (lines : List ScriptLine) (line : ℕ)
     → None ≡ first (channel_faults channels lines)
     → between 1 MOST_CYCLES cycles ≡ true → Some line ≡ first (number_faults channels lines)
     → Finishes channels n cycles lines (Err (E.Number line))
 number_refused channels n cycles lines line none fine e =
     number_first channels n cycles lines line none (e ∙ ap (λ b. first (told_if (not b) n ++ number_faults channels lines)) (sym fine))
 
-pub script_made : (channels : List Channel) (n cycles : ℕ) (lines : List StepLine) (g : Gathered) (script : Script)
+pub script_made : (channels : List Channel) (n cycles : ℕ) (lines : List ScriptLine) (g : Gathered) (script : Script)
     → IsGathered channels lines g
     → g.channel ≡ None → g.number ≡ None → between 1 MOST_CYCLES cycles ≡ true → script.cycles ≡ cycles → script.steps ≡ g.steps
+    → script.resets ≡ g.resets
     → Finishes channels n cycles lines (Ok script)
-script_made channels n cycles lines g script is no_channel no_number fine cycles_are steps_are =
+script_made channels n cycles lines g script is no_channel no_number fine cycles_are steps_are resets_are =
     let named : channel_faults channels lines ≡ [] = none_told _ (sym no_channel ∙ is.channel) in
     let fitting : number_faults channels lines ≡ [] = none_told _ (sym no_number ∙ is.number) in
-    let lawful = all_lawful channels lines named fitting in
+    let lawful = all_lawful channels 0 lines named fitting in
     let lists : length script.steps ≡ length channels = ap length steps_are ∙ is.lists in
     let steps : (c : ℕ) → c < length channels → steps_of script c ≡ steps_for c lines =
-    λ c within. ap (λ (xs : List (List Step)). get_or xs c []) steps_are ∙ is.steps lawful c within in (
+    λ c within. ap (λ (xs : List (List Step)). get_or xs c []) steps_are ∙ is.steps lawful c within in
+    let resets : script.resets ≡ times_of lines = resets_are ∙ is.resets in (
       behind channels n cycles lines named
           ∙ ap (λ b. map number_error (told_if (not b) n ++ number_faults channels lines)) fine ∙ ap (map number_error) fitting,
-      record { cycles_are = cycles_are; lists = lists; steps = steps },
+      record { cycles_are = cycles_are; lists = lists; steps = steps; resets_are = resets },
       record {
         lists = lists;
         some = omega (arith, some_between 1 MOST_CYCLES cycles fine, cycles_are);
         few = omega (arith, few_between 1 MOST_CYCLES cycles fine, cycles_are);
         fits = λ c channel at. subst (AllFit channels channel) (sym (steps c (slice_get_within channels c channel at)))
             (steps_fit channels channel c lines at lawful);
+        times = subst AreTimes (sym resets) (are-times channels lines fitting);
       },
     )
 

@@ -1,5 +1,5 @@
 -- The offers of an environment, and of a script, last.
-use Rattle.std.proofs.Common.{ℕ, List, [], ◌∷◌, ◌++◌}
+use Rattle.std.proofs.Common.{◌≡◌, ℕ, List, [], ◌∷◌, ◌++◌, append_assoc, sym, subst}
 use Rattle.run_model.specs.trace_model.declared.channel.Channel.{Channel}
 use Rattle.run_model.specs.trace_model.declared.row.Row.{Row}
 use Rattle.run_model.specs.Laws.{OffersFit, OffersStay}
@@ -18,6 +18,15 @@ pub offers-stay : (channels : List Channel) (offer : List Row → ℕ → Offer)
 offers-stay channels offer lasting before row are carries c x at dir up unended =
     stays-offered channels (offer before) (offer (before ++ row ∷ [])) (lasting.fits before) (lasting.fits (before ++ row ∷ [])) c x at up
     (λ was. lasting.stays before row c (carries-each channels (offer before) (lasting.fits before) row carries) was unended)
+
+-- so it is behind some rows
+pub lasting-behind : (channels : List Channel) (offer : List Row → ℕ → Offer) → AreLasting channels offer → (past : List Row)
+    → AreLasting channels (λ before. offer (past ++ before))
+lasting-behind channels offer lasting past = record {
+  fits = λ rows. lasting.fits (past ++ rows);
+  stays = λ rows row c carries was unended. subst (λ (rs : List Row). offer rs c ≡ offer (past ++ rows) c)
+      (append_assoc past rows (row ∷ [])) (lasting.stays (past ++ rows) row c carries was unended);
+}
 
 pub lasting-offers : LastingOffers
 lasting-offers channels offer lasting = (offers-fit channels offer lasting, offers-stay channels offer lasting)

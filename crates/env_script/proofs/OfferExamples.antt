@@ -16,7 +16,7 @@ abbrev shut : ℕ → ℕ → Row
 shut valids readies = record { fresh = false; gates = 0; valids = valids; readies = readies; contents = []; starts = 0; ends = 0 }
 
 abbrev script : List (List Step) → Script
-script steps = record { cycles = 6; steps = steps }
+script steps = record { cycles = 6; steps = steps; resets = [] }
 
 abbrev sent : List ℕ → Offer
 sent content = record { valid = true; content = content; ready = false }

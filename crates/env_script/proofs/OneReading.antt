@@ -11,7 +11,7 @@ use Rattle.env_script.specs.declared.error.ScriptError.{ScriptError}
 use Rattle.env_script.specs.declared.error.ScriptError.TheVariants.{Line, Channel, Number, Memory}
 use Rattle.env_script.specs.declared.error.StallError.{StallError}
 use Rattle.env_script.specs.declared.error.StallError.TheVariants as S
-use Rattle.env_script.specs.declared.said.StepLine.{StepLine}
+use Rattle.env_script.specs.declared.said.ScriptLine.{ScriptLine}
 use Rattle.env_script.specs.declared.script.Script.{Script}
 use Rattle.env_script.specs.declared.stalls.Stalls.{Stalls}
 use Rattle.env_script.specs.Used.{is_blank, number_in}
@@ -24,13 +24,14 @@ use Rattle.env_script.specs.OneReading.{SamePlan, OneScript, OnePlan}
 use Rattle.run_model.proofs.vidi_bits_lemmas.OneAnswer.{one-answer}
 
 -- ---- scripts
-same-script : (channels : List ChannelOf) (cycles : ℕ) (lines : List StepLine) (a b : Script) → IsScript channels cycles lines a
+same-script : (channels : List ChannelOf) (cycles : ℕ) (lines : List ScriptLine) (a b : Script) → IsScript channels cycles lines a
     → IsScript channels cycles lines b → a ≡ b
 same-script channels cycles lines a b x y =
     let cycles-same = x.cycles_are ∙ sym y.cycles_are in
     let steps-same = ext_get_or [] a.steps b.steps (x.lists ∙ sym y.lists) (λ c l.
     (let within : c < length channels = subst (λ (n : ℕ). c < n) x.lists l in x.steps c within ∙ sym (y.steps c within))) in
-    λ i. record { cycles = cycles-same i; steps = steps-same i }
+    let resets-same = x.resets_are ∙ sym y.resets_are in
+    λ i. record { cycles = cycles-same i; steps = steps-same i; resets = resets-same i }
 
 says-behind : (channels : List ChannelOf) (n : ℕ) (cycles : Option ℕ) (others : List (Option LineOf)) (a b : Script)
     → SaysBehind channels n cycles others a → SaysBehind channels n cycles others b → a ≡ b

@@ -7,6 +7,7 @@ use Rattle.run_model.specs.trace_model.declared.packet.TheConstants.{MOST_CYCLES
 use Rattle.env_script.specs.declared.script.Step.{Step}
 use Rattle.env_script.specs.declared.script.Step.TheVariants.{Send, Take, TakeAll, Wait, After}
 use Rattle.env_script.specs.declared.script.Script.{Script}
+use Rattle.env_script.specs.Resets.{AreTimes}
 
 -- the steps of channel c
 abbrev pub steps_of : Script → ℕ → List Step
@@ -20,10 +21,12 @@ StepFits channels channel TakeAll = channel.dir ≡ Outward
 StepFits channels channel (Wait cycles) = (1 ≤ cycles) × (cycles ≤ MOST_CYCLES)
 StepFits channels channel (After other count) = (other < length channels) × (1 ≤ count)
 
--- there is a list of steps for each channel, and each step of it fits; the cycles are 1 to the most
+-- there is a list of steps for each channel, and each step of it fits; the cycles are 1 to the most; the times
+-- of the resets increase from 1 on
 pub record FitsChannels (channels : List Channel) (script : Script) : Type 0 where
   pub lists : length script.steps ≡ length channels
   pub some : 1 ≤ script.cycles
   pub few : script.cycles ≤ MOST_CYCLES
   pub fits : (c : ℕ) (channel : Channel) → slice_get channels c ≡ Some channel
       → (j : ℕ) (step : Step) → slice_get (steps_of script c) j ≡ Some step → StepFits channels channel step
+  pub times : AreTimes script.resets

@@ -1,5 +1,5 @@
 -- What a line of a script says (this project's profile).
-use Rattle.std.specs.Prelude.{ℕ, ◌+◌, if◌then◌else◌, List, [], ◌∷◌, Option, Some, None, codes}
+use Rattle.std.specs.Prelude.{ℕ, ◌+◌, ◌&&◌, Bool, false, if◌then◌else◌, List, [], ◌∷◌, Option, Some, None, codes}
 use Rattle.std.specs.Str.{bytes_eq}
 use Rattle.std.specs.Option.{option_map}
 use Rattle.run_model.specs.trace_model.declared.channel.Channel.{Channel}
@@ -9,6 +9,8 @@ use Rattle.env_script.specs.declared.forms.Keyword.TheVariants as K
 use Rattle.env_script.specs.declared.said.Said.{Said}
 use Rattle.env_script.specs.declared.said.Said.TheVariants.{Send, Take, TakeAll, Wait, After}
 use Rattle.env_script.specs.declared.said.StepLine.{StepLine}
+use Rattle.env_script.specs.declared.said.ScriptLine.{ScriptLine}
+use Rattle.env_script.specs.declared.said.ScriptLine.TheVariants as L
 
 -- the word behind a channel's name
 unfoldable pub keyword_of : List ℕ → Option Keyword
@@ -66,3 +68,18 @@ line_of channels n (name ∷ keyword ∷ words) =
     option_map (λ (said : Said). record { line = n; channel = channel_named 0 channels name; said = said })
     (said_under channels (keyword_of keyword) words)
 line_of channels n words = None
+
+-- a line whose first word is `reset` and whose second is `at` is a reset line, also where it is then of no form
+abbrev pub is_reset : List (List ℕ) → Bool
+is_reset (first ∷ second ∷ words) = bytes_eq first (codes "reset") && bytes_eq second (codes "at")
+is_reset words = false
+
+-- `reset at T`, which has three words, in the line with number n
+abbrev pub reset_of : ℕ → List (List ℕ) → Option ScriptLine
+reset_of n (reset ∷ at ∷ word ∷ []) = option_map (λ (time : ℕ). L.Reset n time) (number_of word)
+reset_of n words = None
+
+-- a reset line or a step, in the line with number n; None for words of no form
+abbrev pub script_line : List Channel → ℕ → List (List ℕ) → Option ScriptLine
+script_line channels n words =
+    if is_reset words then reset_of n words else option_map (λ (l : StepLine). L.Step l) (line_of channels n words)

@@ -1,5 +1,6 @@
 pub mod Used
 pub mod Forms
+pub mod Resets
 pub mod Reasons
 pub mod Steps
 pub mod Fits

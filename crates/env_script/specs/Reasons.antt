@@ -16,28 +16,31 @@ use Rattle.env_script.specs.declared.error.ScriptError.TheVariants as E
 use Rattle.env_script.specs.declared.said.Said.{Said}
 use Rattle.env_script.specs.declared.said.Said.TheVariants.{Send, Take, TakeAll, Wait, After}
 use Rattle.env_script.specs.declared.said.StepLine.{StepLine}
+use Rattle.env_script.specs.declared.said.ScriptLine.{ScriptLine}
+use Rattle.env_script.specs.declared.said.ScriptLine.TheVariants.{Step, Reset}
+use Rattle.env_script.specs.declared.script.TheConstants.{LATEST_RESET}
 use Rattle.env_script.specs.Used.{is_blank, number_in}
-use Rattle.env_script.specs.Forms.{line_of}
+use Rattle.env_script.specs.Forms.{script_line}
 
--- ---- S1: each line behind the first one with words has none or the form of a step; a bad line, which is None, has no form
+-- ---- S1: each line behind the first one with words has none, or the form of a step or a reset; a bad line, which is None, has no form
 
-abbrev pub said : List Channel → ℕ → Option Line → List StepLine
+abbrev pub said : List Channel → ℕ → Option Line → List ScriptLine
 said channels n None = []
-said channels n (Some line) = option_to_list (line_of channels n line.words)
+said channels n (Some line) = option_to_list (script_line channels n line.words)
 
-abbrev pub is_step : List Channel → ℕ → Option Line → Bool
-is_step channels n line = is_blank line || not (is_nil (said channels n line))
+abbrev pub has_form : List Channel → ℕ → Option Line → Bool
+has_form channels n line = is_blank line || not (is_nil (said channels n line))
 
 abbrev pub line_faults : List Channel → ℕ → Option Line → List ℕ
-line_faults channels n line = told_if (not (is_step channels n line)) n
+line_faults channels n line = told_if (not (has_form channels n line)) n
 
 -- the numbers of the lines of no form, the first line having number n
-abbrev pub step_faults : List Channel → ℕ → List (Option Line) → List ℕ
-step_faults channels n [] = []
-step_faults channels n (line ∷ lines) = line_faults channels n line ++ step_faults channels (n + 1) lines
+abbrev pub form_faults : List Channel → ℕ → List (Option Line) → List ℕ
+form_faults channels n [] = []
+form_faults channels n (line ∷ lines) = line_faults channels n line ++ form_faults channels (n + 1) lines
 
 -- what the lines say
-abbrev pub all_said : List Channel → ℕ → List (Option Line) → List StepLine
+abbrev pub all_said : List Channel → ℕ → List (Option Line) → List ScriptLine
 all_said channels n [] = []
 all_said channels n (line ∷ lines) = said channels n line ++ all_said channels (n + 1) lines
 
@@ -65,11 +68,16 @@ suits_channel channels (Some channel) said = suits channels channel.dir said
 abbrev pub names_channels : List Channel → StepLine → Bool
 names_channels channels l = suits_channel channels (channel_at channels l.channel) l.said
 
-abbrev pub channel_faults : List Channel → List StepLine → List ℕ
-channel_faults channels lines = flat_map (λ (l : StepLine). told_if (not (names_channels channels l)) l.line) lines
+-- a reset names no channel
+abbrev pub channel_fault : List Channel → ScriptLine → List ℕ
+channel_fault channels (Step l) = told_if (not (names_channels channels l)) l.line
+channel_fault channels (Reset line time) = []
+
+abbrev pub channel_faults : List Channel → List ScriptLine → List ℕ
+channel_faults channels lines = flat_map (channel_fault channels) lines
 
 -- ---- S3: `wait` not 1 to the most cycles of a run, `take` and `after` not 1 to 4,294,967,295, a `send` whose numbers aren't as many as the
--- content ports or don't fit them
+-- content ports or don't fit them, the time of a reset not 1 to the greatest or not above that of the reset line before it
 
 abbrev pub is_small : Said → Bool
 is_small (Send content) = true
@@ -98,13 +106,33 @@ fits_channel (Some channel) said = fits_content channel.widths said
 abbrev pub fits_numbers : List Channel → StepLine → Bool
 fits_numbers channels l = is_small l.said && fits_channel (channel_at channels l.channel) l.said
 
-abbrev pub number_faults : List Channel → List StepLine → List ℕ
-number_faults channels lines = flat_map (λ (l : StepLine). told_if (not (fits_numbers channels l)) l.line) lines
+-- a time that is above that of the reset line before it, or above 0 where none is before it
+abbrev pub is_time : ℕ → ℕ → Bool
+is_time before time = between 1 LATEST_RESET time && nat_lt before time
+
+abbrev pub number_fault : List Channel → ℕ → ScriptLine → List ℕ
+number_fault channels before (Step l) = told_if (not (fits_numbers channels l)) l.line
+number_fault channels before (Reset line time) = told_if (not (is_time before time)) line
+
+-- the time of this line where it is a reset's, else the one before
+abbrev pub time_behind : ℕ → ScriptLine → ℕ
+time_behind before (Step l) = before
+time_behind before (Reset line time) = time
+
+-- One list of both kinds in the order of the lines. `before` is the time of the reset line before these lines, in the file, also where that
+-- line is itself at fault: behind `reset at 5` and `reset at 3` the line `reset at 4` isn't at fault. The first of all is the same where
+-- the greatest time before counts, since before the first line at fault the times increase.
+abbrev pub faults_after : List Channel → ℕ → List ScriptLine → List ℕ
+faults_after channels before [] = []
+faults_after channels before (l ∷ lines) = number_fault channels before l ++ faults_after channels (time_behind before l) lines
+
+abbrev pub number_faults : List Channel → List ScriptLine → List ℕ
+number_faults channels lines = faults_after channels 0 lines
 
 -- ---- the three steps over a whole script
 
 -- S2 and then S3, where the line with number n says `cycles N` and the lines behind it say this; N is 1 to the most
-abbrev pub later_faults : List Channel → ℕ → ℕ → List StepLine → List ScriptError
+abbrev pub later_faults : List Channel → ℕ → ℕ → List ScriptLine → List ScriptError
 later_faults channels n cycles lines = map (λ (m : ℕ). E.Channel m) (channel_faults channels lines)
     ++ map (λ (m : ℕ). E.Number m) (told_if (not (between 1 MOST_CYCLES cycles)) n ++ number_faults channels lines)
 
@@ -112,7 +140,7 @@ later_faults channels n cycles lines = map (λ (m : ℕ). E.Channel m) (channel_
 abbrev pub faults_behind : List Channel → ℕ → Option ℕ → List (Option Line) → List ScriptError
 faults_behind channels n None others = E.Line n ∷ []
 faults_behind channels n (Some cycles) others =
-    map (λ (m : ℕ). E.Line m) (step_faults channels (n + 1) others) ++ later_faults channels n cycles (all_said channels (n + 1) others)
+    map (λ (m : ℕ). E.Line m) (form_faults channels (n + 1) others) ++ later_faults channels n cycles (all_said channels (n + 1) others)
 
 -- without any line with words the number is the last line's plus 1
 abbrev pub faults_from : List Channel → ℕ → List (Option Line) → List ScriptError

@@ -2,8 +2,9 @@
 
 ghost use Rattle.std.specs.Prelude.{◌≡◌, IfOk};
 ghost use Rattle.env_script.specs.Forms.{keyword_of, channel_named, numbers_of, send_of, take_of, wait_of, after_of, said_of, line_of};
+ghost use Rattle.env_script.specs.Forms.{is_reset, reset_of, script_line};
 
-use crate::said::{Said, StepLine};
+use crate::said::{Said, ScriptLine, StepLine};
 use crate::used::is_word;
 use run_model::trace_model::Channel;
 use run_model::vidi_bits::{Memory, Name, Numbers};
@@ -115,7 +116,7 @@ fn said_of(
 }
 
 /// What the words of the line with this number say, `None` where they have no form of a step.
-pub fn line_of(
+fn line_of(
     alloc: Global,
     channels: &[Channel],
     line: u32,
@@ -136,6 +137,47 @@ pub fn line_of(
             channel,
             said,
         })),
+        None => Ok(None),
+    }
+}
+
+/// Whether the words begin as those of a reset line do.
+pub fn is_reset(words: &[Name]) -> bool
+    ensures { result ≡ is_reset words.now }
+{
+    match words {
+        [first, second, ..] => {
+            is_word(first.as_slice(), b"reset") && is_word(second.as_slice(), b"at")
+        }
+        _ => false,
+    }
+}
+
+fn reset_of(line: u32, words: &[Name]) -> Option<ScriptLine>
+    ensures { result ≡ reset_of line words.now }
+{
+    let [_, _, time] = words else {
+        return None;
+    };
+    let time = number(time.as_slice())?;
+    Some(ScriptLine::Reset { line, time })
+}
+
+/// What the words of the line with this number say, `None` where they have no form of a line behind the first one with
+/// words.
+pub fn script_line(
+    alloc: Global,
+    channels: &[Channel],
+    line: u32,
+    words: &[Name],
+) -> Result<Option<ScriptLine>, Memory>
+    ensures { IfOk result (λ l. l ≡ script_line channels.now line words.now) }
+{
+    if is_reset(words) {
+        return Ok(reset_of(line, words));
+    }
+    match line_of(alloc, channels, line, words)? {
+        Some(step) => Ok(Some(ScriptLine::Step(step))),
         None => Ok(None),
     }
 }

@@ -2,18 +2,20 @@
 
 ghost use Rattle.std.specs.Prelude.{◌≡◌, ◌<◌, ◌++◌, ◌∷◌, [], ℕ, true, not, List, length, slice_set, slice_index_or, IfOk, OnOk};
 ghost use Rattle.run_model.specs.vidi_bits.Findings.{first, or_first, told_if};
-ghost use Rattle.env_script.specs.declared.said.StepLine.{StepLine};
+ghost use Rattle.env_script.specs.declared.said.ScriptLine.{ScriptLine};
+ghost use Rattle.env_script.specs.declared.said.ScriptLine.TheVariants as L;
+ghost use Rattle.run_model.specs.trace_model.declared.channel.Channel.{Channel};
 ghost use Rattle.env_script.specs.Reasons.{is_small};
 ghost use Rattle.env_script.specs.Steps.{step_for};
 ghost use Rattle.env_script.specs.Reads.{IsGathered, TakesLine};
 
 use crate::error::ScriptError;
-use crate::forms::line_of;
-use crate::lawful::{fits_numbers, made, names_channels};
-use crate::said::StepLine;
+use crate::forms::script_line;
+use crate::lawful::{fits_numbers, is_time, made, names_channels};
+use crate::said::{ScriptLine, StepLine};
 use crate::script::{Step, StepLists, Steps};
 use run_model::trace_model::Channel;
-use run_model::vidi_bits::Memory;
+use run_model::vidi_bits::{Memory, Numbers};
 use run_model::vidi_lines::Line;
 use std::alloc::Global;
 
@@ -21,6 +23,10 @@ use std::alloc::Global;
 #[derive(Drop)]
 pub struct Gathered {
     pub steps: StepLists,
+    /// The times of the reset lines.
+    pub resets: Numbers,
+    /// The time of the last reset line, 0 where there is none.
+    pub last: u128,
     /// The first line at fault by S2.
     pub channel: Option<u32>,
     /// The first line at fault by S3.
@@ -66,6 +72,8 @@ impl Gathered {
         let steps = no_steps(alloc, channels.len())?;
         Ok(Gathered {
             steps,
+            resets: Numbers::new(alloc),
+            last: 0,
             channel: None,
             number: None,
         })
@@ -76,6 +84,8 @@ impl Gathered {
         requires { is_small line.said ≡ true }
         ensures channel { self.new.channel ≡ self.old.channel }
         ensures number { self.new.number ≡ self.old.number }
+        ensures resets { self.new.resets ≡ self.old.resets }
+        ensures last { self.new.last ≡ self.old.last }
         ensures lists { length self.new.steps ≡ length self.old.steps }
         ensures steps { OnOk result ((c : ℕ) → c < length self.old.steps
             → slice_index_or self.new.steps c [] ≡ slice_index_or self.old.steps c [] ++ step_for c line) }
@@ -89,10 +99,10 @@ impl Gathered {
         }
     }
 
-    /// Gathers what a line says.
-    fn note(&mut self, channels: &[Channel], line: StepLine) -> Result<(), Memory>
-        ensures { OnOk result ((before : List StepLine) → IsGathered channels.now before self.old
-            → IsGathered channels.now (before ++ line ∷ []) self.new) }
+    /// Gathers what the line of a step says.
+    fn note_step(&mut self, channels: &[Channel], line: StepLine) -> Result<(), Memory>
+        ensures { OnOk result ((before : List ScriptLine) → IsGathered channels.now before self.old
+            → IsGathered channels.now (before ++ L.Step line ∷ []) self.new) }
     {
         let named = names_channels(channels, &line);
         let fits = fits_numbers(channels, &line);
@@ -103,6 +113,16 @@ impl Gathered {
         } else {
             Ok(())
         }
+    }
+
+    /// Gathers what a reset line says.
+    fn note_reset(&mut self, line: u32, time: u128) -> Result<(), Memory>
+        ensures { OnOk result ((channels : List Channel) (before : List ScriptLine) → IsGathered channels before self.old
+            → IsGathered channels (before ++ L.Reset line time ∷ []) self.new) }
+    {
+        self.number = first_fault(self.number, is_time(self.last, time), line);
+        self.last = time;
+        self.resets.push(time)
     }
 
     /// Reads the line with this number, counted from 1, which is bad where it is `None`.
@@ -121,10 +141,13 @@ impl Gathered {
         if line.words.is_empty() {
             return Ok(());
         }
-        let Some(said) = line_of(alloc, channels, number, line.words.as_slice())? else {
+        let Some(said) = script_line(alloc, channels, number, line.words.as_slice())? else {
             return Err(ScriptError::Line { line: number });
         };
-        self.note(channels, said)?;
+        match said {
+            ScriptLine::Step(line) => self.note_step(channels, line)?,
+            ScriptLine::Reset { line, time } => self.note_reset(line, time)?,
+        }
         Ok(())
     }
 }

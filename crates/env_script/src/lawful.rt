@@ -3,11 +3,11 @@
 ghost use Rattle.std.specs.Prelude.{◌≡◌, true, is_some};
 ghost use Rattle.std.specs.Option.{option_copied};
 ghost use Rattle.run_model.specs.trace_model.Channel.{between};
-ghost use Rattle.env_script.specs.Reasons.{channel_at, suits, names_channels, fits_ports, fits_content, is_small, fits_numbers};
+ghost use Rattle.env_script.specs.Reasons.{channel_at, suits, names_channels, fits_ports, fits_content, is_small, fits_numbers, is_time};
 ghost use Rattle.env_script.specs.Steps.{made};
 
 use crate::said::{Said, StepLine};
-use crate::script::Step;
+use crate::script::{LATEST_RESET, Step};
 use run_model::trace_model::{Channel, Dir, MOST_CYCLES, fits};
 
 /// Whether a number is in a range, its ends with it.
@@ -102,6 +102,13 @@ pub fn fits_numbers(channels: &[Channel], line: &StepLine) -> bool
         Some(channel) => fits_content(channel.widths.as_slice(), &line.said),
         None => true,
     }
+}
+
+/// Whether a reset may have this time, where the reset line before it has the time `before`, or 0 stands for none.
+pub fn is_time(before: u128, time: u128) -> bool
+    ensures { result ≡ is_time before time }
+{
+    between(1, u128::from(LATEST_RESET), time) && before < time
 }
 
 /// The step that is said, `None` where it waits for no channel.

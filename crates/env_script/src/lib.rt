@@ -2,9 +2,10 @@
 //! of stalls, read from their texts (this project's profile).
 //!
 //! The definitions of the texts stand in `specs/`: `Forms` (what a line of a script says), `Reasons` (S1, S2 and S3 over a whole
-//! script), `Reads` (the script of a text), `Fits` (a script fits channels), `Plan` (the bytes that may drain in a
-//! cycle), `Stalls` (P1 and the plan of a text) and `ScriptOffer` (what a script offers after rows). `ScriptLaws` says the
-//! offer sentence by sentence, and `OneReading` that of a text there is one script, or one plan.
+//! script), `Reads` (the script of a text), `Fits` (a script fits channels), `Resets` (the times of resets), `Plan` (the
+//! bytes that may drain in a cycle), `Stalls` (P1 and the plan of a text) and `ScriptOffer` (what a script offers after
+//! rows). `ScriptLaws` says the offer sentence by sentence, and `OneReading` that of a text there is one script, or one
+//! plan.
 //!
 //! The trait `Env` says what any environment means; `ScriptEnv` plays a script. `Offered` says what the offers of all channels are, as
 //! masks and numbers, and `Laws` that they last.
@@ -20,6 +21,7 @@ mod offers;
 mod place;
 mod reading;
 mod readings;
+mod resets;
 mod said;
 mod script;
 mod script_env;
@@ -35,9 +37,10 @@ pub use laws::{lasting_offers, script_lasts};
 pub use offers::{gather, offers_over};
 pub use reading::read_script;
 pub use readings::{one_plan, one_script};
+pub use resets::{first_reset_line, is_due};
 pub use run_model;
 pub use run_model::{chan_map, trace_model};
-pub use script::{Script, Step, StepLists, Steps};
+pub use script::{LATEST_RESET, Script, Step, StepLists, Steps};
 pub use script_env::ScriptEnv;
 pub use script_laws::{reach_is_as_said, the_greatest_decides};
 pub use stall_text::read_stalls;

@@ -2,7 +2,7 @@
 
 ghost use Rattle.std.specs.Prelude.{◌≡◌, ◌+◌, ◌<◌, ◌^◌, length, List};
 ghost use Rattle.run_model.specs.trace_model.declared.channel.Channel.{Channel};
-ghost use Rattle.env_script.specs.declared.said.StepLine.{StepLine};
+ghost use Rattle.env_script.specs.declared.said.ScriptLine.{ScriptLine};
 ghost use Rattle.env_script.specs.Reasons.{read_lines};
 ghost use Rattle.env_script.specs.Reads.{Gathers, IsGathered, Finishes, ReadsScript};
 
@@ -37,13 +37,15 @@ fn gathered(
 
 /// The script of what was gathered, where the line with this number says how many cycles it has.
 fn finished(line: u32, cycles: u128, gathered: Gathered) -> Result<Script, ScriptError>
-    ensures { (channels : List Channel) (said : List StepLine) → IsGathered channels said gathered
+    ensures { (channels : List Channel) (said : List ScriptLine) → IsGathered channels said gathered
         → Finishes channels line cycles said result }
 {
     let Gathered {
         steps,
+        resets,
         channel,
         number,
+        ..
     } = gathered;
     if let Some(line) = channel {
         return Err(ScriptError::Channel { line });
@@ -57,6 +59,7 @@ fn finished(line: u32, cycles: u128, gathered: Gathered) -> Result<Script, Scrip
     Ok(Script {
         cycles: cycles as u32,
         steps,
+        resets,
     })
 }
 

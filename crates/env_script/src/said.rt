@@ -1,6 +1,6 @@
 //! What a line of a script says.
 
-use run_model::vidi_bits::{Items, Numbers};
+use run_model::vidi_bits::Numbers;
 
 /// What a line says behind its channel's name. A channel is given by its number in the map, `None` where the map has
 /// none of that name.
@@ -21,5 +21,10 @@ pub struct StepLine {
     pub said: Said,
 }
 
-/// A list of lines, in the order of the text.
-pub type StepLines = Items<StepLine>;
+/// What a line of a script behind the first one with words says: a step of a channel, or a reset in mid-run.
+#[derive(Drop)]
+pub enum ScriptLine {
+    Step(StepLine),
+    /// In the line with this number, counted from 1: a reset before the row with number `time`.
+    Reset { line: u32, time: u128 },
+}

@@ -2,6 +2,7 @@
 
 ghost use Rattle.std.specs.Prelude.{◌≡◌};
 
+use run_model::trace_model::MOST_CYCLES;
 use run_model::vidi_bits::{Items, Numbers};
 
 /// A step of a channel's environment.
@@ -25,11 +26,15 @@ pub type Steps = Items<Step>;
 /// The steps of each channel, in channel order.
 pub type StepLists = Items<Steps>;
 
-/// A script: for how many cycles it runs, and the steps of each channel.
+/// The greatest time of a reset: the number of the last row of the longest run.
+pub const LATEST_RESET: u32 = MOST_CYCLES - 1;
+
+/// A script: for how many cycles it runs, the steps of each channel, and the times of resets in mid-run.
 #[derive(Drop)]
 pub struct Script {
     pub cycles: u32,
     pub steps: StepLists,
+    pub resets: Numbers,
 }
 
 impl Script {
@@ -38,5 +43,12 @@ impl Script {
         ensures { result ≡ self.now.cycles }
     {
         self.cycles
+    }
+
+    /// The times of resets, increasing, 1 to `LATEST_RESET`: a reset at `t` is asked for between rows `t - 1` and `t`.
+    pub fn resets(&self) -> &Numbers
+        ensures { result.now ≡ self.now.resets }
+    {
+        &self.resets
     }
 }

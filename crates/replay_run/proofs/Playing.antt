@@ -56,7 +56,7 @@ module _ (m : Map) (packets : List Packet) (rows : List Row) (last : Row) (some 
     (stable : AreStable m.channels rows) (last_is : IsLast (row_before rows (length rows)) last) where
   balance-of : (d : Design) → IsReplay d m packets rows → (c : ℕ) → shown Start c rows ≡ done rows c + cond (is_in_flight last c) 1 0
   balance-of d replay c =
-      let keeps = keeps-in-flight m.channels rows (replay-keeps d m packets rows replay stable) in
+      let keeps = keeps-in-flight m.channels rows (replay-keeps false d m packets rows replay stable) in
       let even : shown Start c rows ≡ shown End c rows + cond (flies rows c) 1 0 =
       subst (λ (rs : List Row). shown Start c rs ≡ shown End c rs + cond (flies rows c) 1 0) (take_all (length rows) rows (omega arith))
       (counted m.channels rows replay.marked keeps (length rows) (omega arith) c) in

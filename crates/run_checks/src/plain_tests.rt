@@ -8,7 +8,7 @@ ghost use Rattle.bench_run.specs.env_script.Fits.{FitsChannels};
 use crate::sends::is_two_sends;
 use bench_run::chan_map::Map;
 use bench_run::env_script::{Script, ScriptEnv, read_script};
-use bench_run::trace_model::Channels;
+use bench_run::trace_model::{Channels, Row};
 use bench_run::vidi_bits::Memory;
 use bench_run::{PlainRun, Spot, run_plain};
 use sample_designs::net_sim::Sim;
@@ -45,6 +45,36 @@ fn is_one_row(run: &PlainRun) -> bool {
     run.unstable == None && rows.len() == 1 && is_row(&rows[0], [1, 0, 0, 0, 0], &[])
 }
 
+/// A fresh row with these masks and contents.
+fn is_fresh_row(row: &Row, masks: [u128; 5], contents: &[u128]) -> bool {
+    row.fresh
+        && [row.gates, row.valids, row.readies, row.starts, row.ends] == masks
+        && row.contents.as_slice() == contents
+}
+
+/// `a` completes in rows 0 and 1: the reset between them empties the stage, which held 5. So `b` has 6 alone, in row 2.
+fn is_reset_between(run: &PlainRun) -> bool {
+    let rows = run.rows.as_slice();
+    run.unstable == None
+        && rows.len() == 4
+        && is_row(&rows[0], [3, 1, 3, 1, 1], &[5, 0])
+        && is_fresh_row(&rows[1], [3, 1, 3, 1, 1], &[6, 0])
+        && is_row(&rows[2], [3, 2, 2, 2, 2], &[0, 6])
+        && is_row(&rows[3], [3, 0, 3, 0, 0], &[0, 6])
+}
+
+/// In row 1 both channels start and none completes; the reset behind it aborts both. `a` starts again in the fresh row, and `b`, which waits
+/// for 3 cycles since the first row, is taken in row 3.
+fn is_reset_aborting(run: &PlainRun) -> bool {
+    let rows = run.rows.as_slice();
+    run.unstable == None
+        && rows.len() == 4
+        && is_row(&rows[0], [3, 1, 1, 1, 1], &[5, 0])
+        && is_row(&rows[1], [3, 3, 0, 3, 0], &[6, 5])
+        && is_fresh_row(&rows[2], [3, 1, 1, 1, 1], &[6, 0])
+        && is_row(&rows[3], [3, 2, 2, 2, 2], &[0, 6])
+}
+
 /// A run that a test wants.
 #[derive(Clone, Copy)]
 enum Wanted {
@@ -52,6 +82,8 @@ enum Wanted {
     Whole,
     OneRow,
     TwoSends,
+    ResetBetween,
+    ResetAborting,
 }
 
 fn is_as(run: &PlainRun, wanted: Wanted) -> bool {
@@ -60,6 +92,8 @@ fn is_as(run: &PlainRun, wanted: Wanted) -> bool {
         Wanted::Whole => is_whole(run),
         Wanted::OneRow => is_one_row(run),
         Wanted::TwoSends => run.unstable == None && is_two_sends(run.rows.as_slice()),
+        Wanted::ResetBetween => is_reset_between(run),
+        Wanted::ResetAborting => is_reset_aborting(run),
     }
 }
 
@@ -76,7 +110,7 @@ fn runs_by(
     requires mapped { IsMapOf sim.old.design map.now }
 {
     let mut env = ScriptEnv::new(alloc, script, map)?;
-    let run = run_plain(alloc, sim, map, &mut env, script.cycles())?;
+    let run = run_plain(alloc, sim, map, &mut env, script.resets(), script.cycles())?;
     Ok(is_as(&run, wanted))
 }
 
@@ -141,4 +175,16 @@ fn pass_runs(alloc: Global, text: &[u8], wanted: Wanted) -> bool
 fn two_sends_are_played(rt: HostRuntime) {
     let text = b"cycles 6\na send 5\na send 6\nb take all";
     assert!(rt; pass_runs(rt.alloc(), text, Wanted::TwoSends));
+}
+
+#[test]
+fn a_reset_between_two_sends(rt: HostRuntime) {
+    let text = b"cycles 4\na send 5\na send 6\nreset at 1\nb take all";
+    assert!(rt; pass_runs(rt.alloc(), text, Wanted::ResetBetween));
+}
+
+#[test]
+fn a_reset_aborts(rt: HostRuntime) {
+    let text = b"cycles 4\na send 5\na send 6\nreset at 2\nb wait 3\nb take all";
+    assert!(rt; pass_runs(rt.alloc(), text, Wanted::ResetAborting));
 }

@@ -1,5 +1,6 @@
 pub mod QuietTexts
 pub mod PortNets
+mod NoResets
 pub mod Texts
 pub mod Filed
 pub mod Recorded

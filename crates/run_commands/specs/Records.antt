@@ -8,14 +8,16 @@ use Rattle.bench_run.specs.trace_model.Recording.{trace_of}
 use Rattle.vidi_recorder.specs.trace_code.Encoding.{encode}
 use Rattle.vidi_recorder.specs.room_ledger.Reservation.{need}
 use Rattle.bench_run.specs.env_script.declared.error.StallError.TheVariants as errors
+use Rattle.bench_run.specs.env_script.declared.script.Script.{Script}
 use Rattle.bench_run.specs.env_script.declared.stalls.Stalls.{Stalls}
 use Rattle.bench_run.specs.env_script.Reasons.{read_lines}
+use Rattle.bench_run.specs.env_script.Resets.{first_reset}
 use Rattle.bench_run.specs.env_script.Stalls.{ReadsStalls}
 use Rattle.bench_run.specs.env_script.ScriptOffer.{script_offer}
 use Rattle.vidi_recorder.specs.Course.{Course, course, sizes_of, IsRunOf, IsTheRunOf}
 use Rattle.vidi_recorder.specs.Recording.{IsFrontOfTheRun}
 use Rattle.vidi_bench.specs.report_text.declared.reason.Word.TheVariants as words
-use Rattle.vidi_bench.specs.report_text.declared.reason.Reason.TheVariants.{StallLine, TooSmall}
+use Rattle.vidi_bench.specs.report_text.declared.reason.Reason.TheVariants.{ScriptLine, StallLine, TooSmall}
 use Rattle.vidi_bench.specs.declared.bench.Bench.{Bench}
 use Rattle.vidi_bench.specs.vidi_answer.declared.status.Status.{Status}
 use Rattle.vidi_bench.specs.vidi_answer.declared.status.Status.TheVariants.{Done, Unstable}
@@ -26,6 +28,11 @@ use Rattle.vidi_bench.specs.Benches.{ReadTexts, RefusedTexts, IsBench}
 use Rattle.run_commands.specs.Said.{recorded_line, unstable_line}
 
 -- ---- what ends the command before anything is recorded
+
+-- S1 of a script with resets, which are as yet recorded nowhere, at its first reset line
+abbrev pub HasResets : List ℕ → Script → Ending
+HasResets bytes script status said = (line : ℕ) × ¬ (script.resets ≡ []) × (first_reset 1 (read_lines bytes) ≡ Some line)
+    × IsRefusal words.Script (ScriptLine line) status said
 
 -- P1
 abbrev pub IsNoPlan : List ℕ → Ending
@@ -41,12 +48,13 @@ IsTooSmall channels plan status said = (plan.capacity < need (sizes_of channels)
 abbrev pub RefusedStore : List ℕ → List Channel → Ending
 RefusedStore stalls channels = Step (IsNoPlan stalls) (λ plan. ReadsStalls (read_lines stalls) (Ok plan)) (IsTooSmall channels)
 
-abbrev pub RefusedPlan : List ℕ → Bench → Ending
-RefusedPlan stalls b = RefusedStore stalls b.device.map.channels
+abbrev pub RefusedPlan : List ℕ → List ℕ → Bench → Ending
+RefusedPlan script stalls b = Step (HasResets script b.script) (λ (none : Unit {0}). b.script.resets ≡ [])
+    (λ none. RefusedStore stalls b.device.map.channels)
 
 -- four texts
 abbrev pub RefusedPlanned : List ℕ → List ℕ → List ℕ → List ℕ → Ending
-RefusedPlanned design map script stalls = Step (RefusedTexts design map script) (IsBench design map script) (RefusedPlan stalls)
+RefusedPlanned design map script stalls = Step (RefusedTexts design map script) (IsBench design map script) (RefusedPlan script stalls)
 
 -- four files, in the order of the words
 abbrev pub IsUnrecorded : List ℕ → List ℕ → List ℕ → List ℕ → Option Files → (List ℕ → Type 0) → Ending
@@ -55,7 +63,7 @@ IsUnrecorded design map script stalls files ReadFailed = ReadTexts design map sc
 
 -- ---- what is recorded
 
--- the four files are read and accepted: they say this design with its map, this script and this plan
+-- the four files are read and accepted: they say this design with its map, this script without resets and this plan
 pub record IsPlanned (design map script stalls : List ℕ) (files : Option Files) (b : Bench) (plan : Stalls) : Type 0 where
   pub design_text : List ℕ
   pub map_text : List ℕ
@@ -66,6 +74,7 @@ pub record IsPlanned (design map script stalls : List ℕ) (files : Option Files
   pub script_read : IsRead text_limit script files script_text
   pub stalls_read : IsRead text_limit stalls files stalls_text
   pub bench : IsBench design_text map_text script_text b
+  pub no_resets : b.script.resets ≡ []
   pub planned : ReadsStalls (read_lines stalls_text) (Ok plan)
   pub holds : need (sizes_of b.device.map.channels) ≤ plan.capacity
 

@@ -25,7 +25,7 @@ IsEnded map rows (Some spot) =
 
 abbrev pub IsPlayed : Design → Map → Script → Ending
 IsPlayed d map script status said =
-    (run : PlainRun) × IsPlainRun d map (script_offer script) script.cycles run × IsEnded map run.rows run.unstable status said
+    (run : PlainRun) × IsPlainRun d map (script_offer script) script.resets script.cycles run × IsEnded map run.rows run.unstable status said
 
 -- ---- the steps
 

@@ -13,6 +13,7 @@ ghost use Rattle.bench_run.specs.env_script.Fits.{FitsChannels};
 ghost use Rattle.bench_run.specs.env_script.ScriptOffer.{script_offer};
 ghost use Rattle.vidi_recorder.specs.room_ledger.Ledger.{empty};
 ghost use Rattle.vidi_recorder.specs.room_ledger.Reservation.{need};
+ghost use Rattle.bench_run.specs.env_script.Reads.{ReadsScript};
 ghost use Rattle.bench_run.specs.env_script.Reasons.{read_lines};
 ghost use Rattle.bench_run.specs.env_script.Stalls.{ReadsStalls};
 ghost use Rattle.vidi_recorder.specs.vidi_io.Cause.{Rose};
@@ -25,13 +26,15 @@ ghost use Rattle.vidi_bench.specs.AnswerText.{text_of};
 ghost use Rattle.vidi_bench.specs.Benches.{AreWithin, IsBench, IsPlayable};
 ghost use Rattle.vidi_bench.specs.Design.{text_limit};
 ghost use Rattle.vidi_bench.specs.Ended.{EndsWith, IsStopped, Owes};
-ghost use Rattle.run_commands.specs.Records.{course_of, IsCutShort, IsNoPlan, IsPlanned, IsTooSmall, IsUnrecorded, RefusedStore};
+ghost use Rattle.run_commands.specs.Records.{course_of, HasResets, IsCutShort, IsNoPlan, IsPlanned, IsTooSmall, IsUnrecorded, RefusedStore};
 ghost use Rattle.run_commands.specs.Records.{Records, RecordsRun, RefusedPlanned, StopsRecording};
 ghost use Rattle.run_commands.specs.Recorded.{FileEnds, FileFails, IsOutcome};
 
 use bench_run::chan_map::Map;
 use bench_run::chan_monitor::{Machines, Shell};
-use bench_run::env_script::{Env, Script, ScriptEnv, StallError, Stalls, read_stalls};
+use bench_run::env_script::{
+    Env, Script, ScriptEnv, StallError, Stalls, first_reset_line, read_stalls,
+};
 use bench_run::trace_model::Channels;
 use net_design::{Block, Design};
 use net_sim::Sim;
@@ -103,6 +106,7 @@ pub fn plan_texts(alloc: Global, texts: &Texts, stalls: &[u8]) -> Result<Planned
     requires within { AreWithin texts.now }
     requires stalls { length stalls.now ≤ text_limit }
     ensures bench { IfOk result (λ p. IsBench texts.now.design texts.now.map texts.now.script p.bench) }
+    ensures no_resets { IfOk result (λ p. p.bench.script.resets ≡ []) }
     ensures planned { IfOk result (λ p. ReadsStalls (read_lines stalls.now) (Ok p.plan)) }
     ensures holds { IfOk result (λ p. need (sizes_of p.bench.device.map.channels) ≤ p.plan.capacity) }
     ensures playable { IfOk result (λ p. IsPlayable p.bench) }
@@ -110,9 +114,30 @@ pub fn plan_texts(alloc: Global, texts: &Texts, stalls: &[u8]) -> Result<Planned
     ensures refused { IfErr result (EndsWith (RefusedPlanned texts.now.design texts.now.map texts.now.script stalls.now)) }
 {
     let bench = bench_of(alloc, texts)?;
+    without_resets(alloc, &bench, texts.script.as_slice())?;
     let store = store_of(alloc, &bench.device.map.channels, stalls)?;
     let (plan, room) = store;
     Ok(Planned { bench, plan, room })
+}
+
+/// Whether the script of this text has no resets, which aren't recorded yet.
+fn without_resets(alloc: Global, bench: &Bench, script: &[u8]) -> Result<(), Ended>
+    requires says { ReadsScript bench.now.device.map.channels (read_lines script.now) (Ok bench.now.script) }
+    requires within { length script.now ≤ text_limit }
+    ensures none { IfOk result (λ _. bench.now.script.resets ≡ []) }
+    ensures refused { IfErr result (EndsWith (HasResets script.now bench.now.script)) }
+{
+    if bench.script.resets.is_empty() {
+        return Ok(());
+    }
+    match first_reset_line(alloc, script)? {
+        Some(line) => Err(Ended::Refused(refused(
+            alloc,
+            Word::Script,
+            Reason::ScriptLine { line },
+        )?)),
+        None => Ok(()),
+    }
 }
 
 /// The plan of a text, and a store for it and these channels.

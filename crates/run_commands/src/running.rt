@@ -78,7 +78,7 @@ fn run_of(
     requires order { IsOrder design order.drivers }
     requires mapped { IsMapOf design map.now }
     requires fits { FitsChannels map.now.channels script.now }
-    ensures { IfOk result (λ run. IsPlainRun design map.now (script_offer script.now) script.now.cycles run) }
+    ensures { IfOk result (λ run. IsPlainRun design map.now (script_offer script.now) script.now.resets script.now.cycles run) }
 {
     let sim = Sim::new(alloc, design, order)?;
     run_block(alloc, sim, map, script)
@@ -95,10 +95,17 @@ fn run_block<B: Block + Drop>(
     requires lawful { IsLawful (B.design block) }
     requires mapped { IsMapOf (B.design block) map.now }
     requires fits { FitsChannels map.now.channels script.now }
-    ensures { IfOk result (λ run. IsPlainRun (B.design block) map.now (script_offer script.now) script.now.cycles run) }
+    ensures { IfOk result (λ run. IsPlainRun (B.design block) map.now (script_offer script.now) script.now.resets script.now.cycles run) }
 {
     let mut env = ScriptEnv::new(alloc, script, map)?;
-    run_plain(alloc, &mut block, map, &mut env, script.cycles())
+    run_plain(
+        alloc,
+        &mut block,
+        map,
+        &mut env,
+        script.resets(),
+        script.cycles(),
+    )
 }
 
 /// The lines of the rows, and how the run ended. They keep the channels of the map, which is let go.

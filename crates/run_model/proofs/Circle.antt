@@ -18,7 +18,10 @@ use Rattle.chan_map.specs.trace_model.Clock.{clock}
 use Rattle.chan_map.specs.trace_model.Counting.{IsNth}
 use Rattle.chan_map.specs.trace_model.Packet.{does, count}
 use Rattle.chan_map.specs.trace_model.Recording.{shown}
-use Rattle.chan_map.specs.trace_model.Trace.{Alternates}
+use Rattle.chan_map.specs.trace_model.Epoch.{resets}
+use Rattle.chan_map.specs.trace_model.Trace.{Alternates, IsWellFormed}
+use Rattle.net_design.specs.declared.design.Design.{Design}
+use Rattle.chan_map.specs.declared.pins.Map.{Map}
 use Rattle.chan_map.proofs.trace_model_lemmas.CountingLemmas.{count-suc, count-suc_yes, count-suc_no}
 use Rattle.chan_map.proofs.trace_model_lemmas.FlightLemmas.{balanced}
 use Rattle.chan_map.proofs.trace_model_lemmas.RowLaws.{counted}
@@ -28,7 +31,8 @@ use Rattle.run_model.specs.Held.{packet_place, places_from, flies, awaits, contr
 use Rattle.run_model.specs.Held.{event, held, held_if, held_at, held_event, next_event}
 use Rattle.run_model.specs.Held.{recorded_next, same_kind, same_event, is_held, waits}
 use Rattle.run_model.specs.Laws.{IsShown, IsFirstOpen, IsIn, IsFree, NoCircle}
-use Rattle.run_model.specs.Replay.{done, HasEnded}
+use Rattle.run_model.specs.Played.{AreStable}
+use Rattle.run_model.specs.Replay.{done, HasEnded, IsReplayStretch}
 use Rattle.run_model.proofs.EventPlaces.{awaits-none, nth-place}
 use Rattle.run_model.proofs.OneEpoch.{none-reset, one-epoch}
 use Rattle.run_model.proofs.PinLemmas.{all-at}
@@ -330,14 +334,18 @@ module _ (channels : List Channel) (packets : List Packet) (rows : List Row) (no
   late-in Reset c packet l at resets late =
       absurd (false≢true (sym (all-at (λ (q : Packet). q.reset ≡ false) packets p packet none at) ∙ resets))
 
-pub no-circle : NoCircle
-no-circle d m packets rows well none replay stable open-end = (
+pub no-circle_in_epoch : (later : Bool) (d : Design) (m : Map) (packets : List Packet) (rows : List Row)
+    → IsWellFormed (record { channels = m.channels; packets = packets }) → resets packets ≡ 0
+    → IsReplayStretch later d m packets rows → AreStable m.channels rows → (HasEnded (length m.channels) packets rows → ⊥)
+    → ((p : ℕ) × IsFirstOpen (length m.channels) packets rows p)
+    × ((p : ℕ) → IsFirstOpen (length m.channels) packets rows p → IsFree m.channels packets rows p)
+no-circle_in_epoch later d m packets rows well none replay stable open-end = (
   some-open (length m.channels) packets rows open-end,
   λ p first.
       (let late = ⊎_elim (λ (is : IsShown (length m.channels) packets rows p). absurd (first.unshown is))
       (λ (late : LatePacket (length m.channels) packets rows p). late)
       (shown-or-late (length m.channels) packets rows p first.within) in
-      let keeps = keeps-in-flight m.channels rows (replay-keeps d m packets rows replay stable) in
+      let keeps = keeps-in-flight m.channels rows (replay-keeps later d m packets rows replay stable) in
       let balance : (c : ℕ) → shown Start c rows ≡ shown End c rows + cond (flies rows c) 1 0 = λ c.
       subst (λ rs. shown Start c rs ≡ shown End c rs + cond (flies rows c) 1 0) (take_all (length rows) rows (omega arith))
       (counted m.channels rows replay.marked keeps (length rows) (omega arith) c) in
@@ -346,3 +354,6 @@ no-circle d m packets rows well none replay stable open-end = (
       (one-epoch (record { channels = m.channels; packets = packets }) well none) p first balance late.is.kind late.is.c late.packet
       late.is.within late.at late.is.has-it late.is.late)),
 )
+
+pub no-circle : NoCircle
+no-circle = no-circle_in_epoch false

@@ -17,7 +17,5 @@ pub mod Unstable
 pub mod Ends
 pub mod Stops
 pub mod Deciding
-pub mod Chaining
-pub mod StretchLaws
 pub use Rattle.chan_map.proofs.trace_model_lemmas as trace_model_lemmas
 pub use Rattle.chan_map.proofs.vidi_bits_lemmas as vidi_bits_lemmas

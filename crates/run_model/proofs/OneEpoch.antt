@@ -20,6 +20,10 @@ use Rattle.run_model.proofs.PlayedLaws.{front-at, row-before_take, rows-front}
 abbrev pub NoneFresh : List Row → Type 0
 NoneFresh rows = (t : ℕ) (row : Row) → slice_get rows t ≡ Some row → row.fresh ≡ false
 
+-- no row but the first one
+abbrev pub NoneFreshBehind : List Row → Type 0
+NoneFreshBehind rows = (t : ℕ) (row : Row) → slice_get rows (suc t) ≡ Some row → row.fresh ≡ false
+
 stretch-behind : (here rows : List Row) → NoneFresh rows
     → fold (λ here (row : Row). cond row.fresh (row ∷ []) (here ++ row ∷ [])) here rows ≡ here ++ rows
 stretch-behind here [] none = sym (append-nil here)
@@ -29,19 +33,26 @@ stretch-behind here (row ∷ rows) none =
     ∙ stretch-behind (here ++ row ∷ []) rows (λ t r at. none (suc t) r at)
     ∙ append_assoc here (row ∷ []) rows
 
-stretch-all : (rows : List Row) → NoneFresh rows → stretch rows ≡ rows
+first-alone : (b : Bool) (row : Row) → cond b (row ∷ []) ([] ++ row ∷ []) ≡ row ∷ []
+first-alone true row = refl
+first-alone false row = refl
+
+stretch-all : (rows : List Row) → NoneFreshBehind rows → stretch rows ≡ rows
 unfolding stretch
-stretch-all rows none = stretch-behind [] rows none
+stretch-all [] none = refl
+stretch-all (row ∷ rows) none =
+    ap (λ here. fold (λ here (row : Row). cond row.fresh (row ∷ []) (here ++ row ∷ [])) here rows) (first-alone row.fresh row)
+    ∙ stretch-behind (row ∷ []) rows (λ t r at. none t r at)
 
 flight-front : (rows : List Row) (k : ℕ) → KeepsInFlight rows → KeepsInFlight (take k rows)
 flight-front rows k keeps t before row b at =
     let f = front-at rows k t row at in
     keeps t before row (sym (row-before_take rows k t (let l = f.0 in omega (arith, l))) ∙ b) f.1
 
-pub one-stretch : (channels : List Channel) (rows : List Row) → NoneFresh rows → AreRows channels rows → KeepsInFlight rows
+pub one-stretch : (channels : List Channel) (rows : List Row) → NoneFreshBehind rows → AreRows channels rows → KeepsInFlight rows
     → AreStretches channels rows
 one-stretch channels rows none are keeps k l =
-    let whole : stretch (take k rows) ≡ take k rows = stretch-all (take k rows) (λ t row at. none t row (front-at rows k t row at).1) in (
+    let whole : stretch (take k rows) ≡ take k rows = stretch-all (take k rows) (λ t row at. none t row (front-at rows k (suc t) row at).1) in (
       subst (AreRows channels) (sym whole) (rows-front channels rows k are),
       subst KeepsInFlight (sym whole) (flight-front rows k keeps),
     )

@@ -28,16 +28,17 @@ use Rattle.chan_map.proofs.trace_model_lemmas.RowLaws.{counted, recorded-once, s
 use Rattle.net_design.specs.declared.design.Design.{Design}
 use Rattle.chan_map.specs.declared.pins.Map.{Map}
 use Rattle.run_model.specs.Building.{mask_of, joined}
-use Rattle.run_model.specs.Laws.{OneReplay, ContentsFit, ReplayKeepsContents, controls, IsInOrder, AreInOrder, OrderInTheOutput}
+use Rattle.run_model.specs.Laws.{OneReplay, ContentsFit, ContentsStay, HasWellFormedTrace, IsReady, OneOfLength}
+use Rattle.run_model.specs.Laws.{ReplayKeepsContents, controls, IsInOrder, AreInOrder, OrderInTheOutput}
 use Rattle.run_model.specs.Offers.{no_content, CarriesOn}
-use Rattle.run_model.specs.Played.{AreStable, all_up}
-use Rattle.run_model.specs.Replay.{done, IsCovered, IsOfferedOn, IsReplayRow, IsReplay}
+use Rattle.run_model.specs.Played.{AreStable, all_up, is_fresh_after}
+use Rattle.run_model.specs.Replay.{done, IsCovered, IsOfferedOn, IsEpochRow, IsReplayStretch}
 use Rattle.run_model.proofs.Contents.{mask-below, has-mask, has-all, fit-joined, content-joined}
 use Rattle.run_model.proofs.EventPlaces.{covered-or-not, filter-nth}
 use Rattle.run_model.proofs.PinLemmas.{all-at}
 use Rattle.run_model.proofs.PlayedLaws.{Determines, Allows, one-list_of_rows, some-list}
 use Rattle.run_model.proofs.RowParts.{AgreeOn, no-content-fits}
-use Rattle.run_model.proofs.RunLaws.{kept}
+use Rattle.run_model.proofs.RunLaws.{kept, none-behind}
 use Rattle.run_model.proofs.Stays.{KeepsContents, keeps-from, keeps-in-flight, flight-parts, flying-flag}
 
 -- ---- at most one
@@ -59,8 +60,8 @@ agree-on channels packets have a b c Inward x y =
     )
 agree-on channels packets have a b c Outward x y = same-tests (has a.readies c) (has b.readies c) _ x y
 
-replay-determines : (channels : List Channel) (packets : List Packet) → Determines channels (IsReplayRow channels packets)
-replay-determines channels packets before a b are oa ob ra rb = (
+replay-determines : (later : Bool) (channels : List Channel) (packets : List Packet) → Determines channels (IsEpochRow later channels packets)
+replay-determines later channels packets before a b are oa ob ra rb = (
   ra.2 ∙ sym rb.2,
   record {
     gates = ra.1 ∙ sym rb.1;
@@ -159,24 +160,28 @@ pub all-up-below : (n : ℕ) → 2 ^ n - 1 < 2 ^ n
 all-up-below zero = omega arith
 all-up-below (suc n) = let p = all-up-below n in omega arith
 
-replay-allows : (channels : List Channel) (packets : List Packet) → ContentsFit channels packets → (before : List Row)
-    → AreRows channels before → Allows channels (IsReplayRow channels packets) before
-replay-allows channels packets fit before are = record {
+replay-allows : (later : Bool) (channels : List Channel) (packets : List Packet) → ContentsFit channels packets → (before : List Row)
+    → AreRows channels before → Allows channels (IsEpochRow later channels packets) before
+replay-allows later channels packets fit before are = record {
   offers = offers_of channels packets (done before);
   gates = all_up channels;
-  fresh = false;
+  fresh = is_fresh_after later before;
   are = offers-over channels packets (done before) fit;
   below = all-up-below (length channels);
   allows = λ row over carries g fresh.
       (λ c x at. offered-on channels packets (done before) fit row c x.dir x at (carries c x at), g, fresh);
 }
 
-pub one-replay : OneReplay
-one-replay d m ready packets fit n = (
-  some-list d m ready.lawful ready.one_map ready.mapped (IsReplayRow m.channels packets) (replay-allows m.channels packets fit) n,
-  λ a b la lb ra rb. one-list_of_rows d m ready.lawful ready.one_map ready.mapped (IsReplayRow m.channels packets)
-      (replay-determines m.channels packets) a b ra rb (la ∙ sym lb),
+pub one-epoch_replay : (later : Bool) (d : Design) (m : Map) → IsReady d m → (packets : List Packet) → ContentsFit m.channels packets → (n : ℕ)
+    → OneOfLength (IsReplayStretch later d m packets) n
+one-epoch_replay later d m ready packets fit n = (
+  some-list d m ready.lawful ready.one_map ready.mapped (IsEpochRow later m.channels packets) (replay-allows later m.channels packets fit) n,
+  λ a b la lb ra rb. one-list_of_rows d m ready.lawful ready.one_map ready.mapped (IsEpochRow later m.channels packets)
+      (replay-determines later m.channels packets) a b ra rb (la ∙ sym lb),
 )
+
+pub one-replay : OneReplay
+one-replay = one-epoch_replay false
 
 -- ---- contents stay
 covers-more : (n : ℕ) (x y z : ℕ → ℕ) → Covers n x z → ((c : ℕ) → x c ≤ y c) → Covers n y z
@@ -199,7 +204,7 @@ offered-outward channels packets have row c Outward d h = h
 kinds : End ≡ Start → ⊥
 kinds e = cc
 
-module _ (d : Design) (m : Map) (packets : List Packet) (rows : List Row) (replay : IsReplay d m packets rows) where
+module _ (later : Bool) (d : Design) (m : Map) (packets : List Packet) (rows : List Row) (replay : IsReplayStretch later d m packets rows) where
   inward : (t : ℕ) (before row : Row) → row_before rows t ≡ Some before → slice_get rows t ≡ Some row → (c : ℕ) (x : Channel)
       → slice_get m.channels c ≡ Some x → x.dir ≡ Inward → is_in_flight before c ≡ true
       → (has row.valids c ≡ true) × (content_at m.channels row.contents c ≡ content_at m.channels before.contents c)
@@ -237,9 +242,13 @@ module _ (d : Design) (m : Map) (packets : List Packet) (rows : List Row) (repla
   pub replay-keeps : AreStable m.channels rows → KeepsContents m.channels rows
   replay-keeps stable = keeps-from m.channels rows replay.marked stable inward gates-up
 
+pub epoch-keeps_contents : (later : Bool) (d : Design) (m : Map) (packets : List Packet) (rows : List Row) → IsReplayStretch later d m packets rows
+    → AreStable m.channels rows → ContentsStay m.channels rows × HasWellFormedTrace m.channels rows
+epoch-keeps_contents later d m packets rows replay stable = kept m.channels rows
+    (none-behind later rows (λ t row at. (replay.ruled t row at).2)) replay.marked (replay-keeps later d m packets rows replay stable)
+
 pub replay-keeps_contents : ReplayKeepsContents
-replay-keeps_contents d m packets rows replay stable = kept m.channels rows (λ t row at. (replay.ruled t row at).2) replay.marked
-    (replay-keeps d m packets rows replay stable)
+replay-keeps_contents = epoch-keeps_contents false
 
 -- ---- from a packet to its row
 pub record FromRow (channels : List Channel) (rows : List Row) (p : ℕ) (packet : Packet) : Type 0 where
@@ -319,14 +328,14 @@ start-content channels rows are c j p t packet row is in-row = same_Some (conten
     (filter-nth (row_does Start c) rows j t row in-row))
 
 -- ---- order
-module _ (d : Design) (m : Map) (packets : List Packet) (rows : List Row) (replay : IsReplay d m packets rows)
+module _ (later : Bool) (d : Design) (m : Map) (packets : List Packet) (rows : List Row) (replay : IsReplayStretch later d m packets rows)
     (stable : AreStable m.channels rows) where
   -- in a row with a start as many transactions were completed as started before
   pub idle : (c t : ℕ) (row : Row) → slice_get rows t ≡ Some row → has row.starts c ≡ true
       → shown Start c (take t rows) ≡ done (take t rows) c
   idle c t row at starts =
       let l = slice_get_within rows t row at in
-      let all = counted m.channels rows replay.marked (keeps-in-flight m.channels rows (replay-keeps d m packets rows replay stable)) t
+      let all = counted m.channels rows replay.marked (keeps-in-flight m.channels rows (replay-keeps later d m packets rows replay stable)) t
       (omega arith) c in
       let parts = and_parts (sink_valid row c) (not (flies_after (row_before rows t) c)) (sym ((replay.marked t row at).1.starts c)
       ∙ starts) in
@@ -420,5 +429,9 @@ module _ (d : Design) (m : Map) (packets : List Packet) (rows : List Row) (repla
         (filter-nth (does Start c) packets j o.place o.original o.is) ∙ ap Some (sym (o.content refl) ∙ f.3)));
   }
 
+pub order-in_epoch : (later : Bool) (d : Design) (m : Map) (packets : List Packet) (rows : List Row) → IsReplayStretch later d m packets rows
+    → AreStable m.channels rows → AreInOrder m.channels packets (packets_of m.channels rows)
+order-in_epoch later d m packets rows replay stable = in-order-all later d m packets rows replay stable
+
 pub order-in_the_output : OrderInTheOutput
-order-in_the_output d m packets rows replay stable = in-order-all d m packets rows replay stable
+order-in_the_output = order-in_epoch false

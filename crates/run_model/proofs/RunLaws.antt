@@ -1,6 +1,6 @@
 -- A run's offers and gates fix its rows; they keep contents.
-use Rattle.std.proofs.Common.{◌≡◌, ℕ, zero, suc, ◌<◌, ◌^◌, true, false, List, [], ◌∷◌}
-use Rattle.std.proofs.Common.{◌++◌, Some, length, take, slice_get, ap, sym, subst, ◌∙◌}
+use Rattle.std.proofs.Common.{◌≡◌, ℕ, zero, suc, ◌<◌, ◌^◌, Bool, true, false, List, [], ◌∷◌}
+use Rattle.std.proofs.Common.{◌++◌, Some, length, take, slice_get, refl, ap, sym, subst, ◌∙◌}
 use Rattle.std.proofs.lemmas.Bool.{cond-true}
 use Rattle.chan_map.specs.vidi_bits.Number.{has}
 use Rattle.chan_map.specs.trace_model.declared.channel.Channel.{Channel}
@@ -15,12 +15,12 @@ use Rattle.chan_map.specs.declared.pins.Map.{Map}
 use Rattle.run_model.specs.Laws.{IsReady, GatesOf, OffersFit, OneOfLength, OffersStay, GatesStay, ContentsStay, HasWellFormedTrace}
 use Rattle.run_model.specs.Laws.{RunKeepsContents}
 use Rattle.run_model.specs.Offers.{CarriesOn, Carries, offered_content}
-use Rattle.run_model.specs.Played.{AreStable}
-use Rattle.run_model.specs.Run.{IsRun, IsRunRow}
+use Rattle.run_model.specs.Played.{AreStable, is_fresh_after}
+use Rattle.run_model.specs.Run.{IsRunStretch, IsStretchRow}
 use Rattle.run_model.proofs.PlayedLaws.{Determines, Allows, one-list_of_rows, some-list, rows-front}
 use Rattle.run_model.proofs.RowParts.{carried}
 use Rattle.run_model.proofs.Stays.{KeepsContents, keeps-from, keeps-in-flight, contents-stay, flight-parts}
-use Rattle.run_model.proofs.OneEpoch.{NoneFresh, one-stretch}
+use Rattle.run_model.proofs.OneEpoch.{NoneFreshBehind, one-stretch}
 use Rattle.chan_map.proofs.trace_model_lemmas.TraceLaws.{rows-well_formed}
 
 -- ---- exactly one list of n rows
@@ -35,28 +35,28 @@ pub record HasOneMask (channels : List Channel) (gates : List Row → ℕ → Ty
 abbrev pub GatesAreFixed : List Channel → (List Row → ℕ → Type 0) → Type 0
 GatesAreFixed channels gates = (before : List Row) → AreRows channels before → HasOneMask channels gates before
 
-run-determines : (channels : List Channel) (offers : List Row → Offers) (gates : List Row → ℕ → Type 0) → GatesAreFixed channels gates
-    → Determines channels (IsRunRow channels offers gates)
-run-determines channels offers gates one before a b are oa ob ra rb =
+run-determines : (later : Bool) (channels : List Channel) (offers : List Row → Offers) (gates : List Row → ℕ → Type 0)
+    → GatesAreFixed channels gates → Determines channels (IsStretchRow later channels offers gates)
+run-determines later channels offers gates one before a b are oa ob ra rb =
     (ra.2 ∙ sym rb.2, carried channels (offers before) a b ((one before are).only a.gates b.gates ra.1 rb.1) ra.0 rb.0)
 
-run-allows : (channels : List Channel) (offers : List Row → Offers) → OffersFit channels offers → (gates : List Row → ℕ → Type 0)
-    → GatesAreFixed channels gates → (before : List Row) → AreRows channels before → Allows channels (IsRunRow channels offers gates) before
-run-allows channels offers fit gates one before are = record {
+run-allows : (later : Bool) (channels : List Channel) (offers : List Row → Offers) → OffersFit channels offers → (gates : List Row → ℕ → Type 0)
+    → GatesAreFixed channels gates → (before : List Row) → AreRows channels before → Allows channels (IsStretchRow later channels offers gates) before
+run-allows later channels offers fit gates one before are = record {
   offers = offers before;
   gates = (one before are).mask;
-  fresh = false;
+  fresh = is_fresh_after later before;
   are = fit before are;
   below = (one before are).below;
   allows = λ row over carries g fresh. (carries, subst (gates before) (sym g) (one before are).is, fresh);
 }
 
-pub one-of_length : (d : Design) (m : Map) → IsReady d m → (offers : List Row → Offers) → OffersFit m.channels offers
-    → (gates : List Row → ℕ → Type 0) → GatesAreFixed m.channels gates → (n : ℕ) → OneOfLength (IsRun d m offers gates) n
-one-of_length d m ready offers fit gates one n = (
-  some-list d m ready.lawful ready.one_map ready.mapped (IsRunRow m.channels offers gates) (run-allows m.channels offers fit gates one) n,
-  λ a b la lb ra rb. one-list_of_rows d m ready.lawful ready.one_map ready.mapped (IsRunRow m.channels offers gates)
-      (run-determines m.channels offers gates one) a b ra rb (la ∙ sym lb),
+pub one-of_length : (later : Bool) (d : Design) (m : Map) → IsReady d m → (offers : List Row → Offers) → OffersFit m.channels offers
+    → (gates : List Row → ℕ → Type 0) → GatesAreFixed m.channels gates → (n : ℕ) → OneOfLength (IsRunStretch later d m offers gates) n
+one-of_length later d m ready offers fit gates one n = (
+  some-list d m ready.lawful ready.one_map ready.mapped (IsStretchRow later m.channels offers gates) (run-allows later m.channels offers fit gates one) n,
+  λ a b la lb ra rb. one-list_of_rows d m ready.lawful ready.one_map ready.mapped (IsStretchRow later m.channels offers gates)
+      (run-determines later m.channels offers gates one) a b ra rb (la ∙ sym lb),
 )
 
 -- ---- contents stay
@@ -75,8 +75,8 @@ offered : (channels : List Channel) (offers : Offers) (c : ℕ) → has offers.v
     → offered_content channels offers c ≡ content_at channels offers.contents c
 offered channels offers c h = cond-true (has offers.valids c) (content_at channels offers.contents c) _ h
 
-module _ (d : Design) (m : Map) (offers : List Row → Offers) (gates : List Row → ℕ → Type 0) (rows : List Row)
-    (stay : OffersStay m.channels offers) (up : StayUp m.channels gates) (run : IsRun d m offers gates rows) where
+module _ (later : Bool) (d : Design) (m : Map) (offers : List Row → Offers) (gates : List Row → ℕ → Type 0) (rows : List Row)
+    (stay : OffersStay m.channels offers) (up : StayUp m.channels gates) (run : IsRunStretch later d m offers gates rows) where
   abbrev front : ℕ → List Row
   front v = take v rows
 
@@ -115,18 +115,26 @@ plan-stays channels plan stays = record {
   stay = λ before row next are g n c up closed. ap (λ k. has k c) n ∙ stays before row are g c up closed;
 }
 
-pub kept : (channels : List Channel) (rows : List Row) → NoneFresh rows → AreRows channels rows → KeepsContents channels rows
+pub kept : (channels : List Channel) (rows : List Row) → NoneFreshBehind rows → AreRows channels rows → KeepsContents channels rows
     → ContentsStay channels rows × HasWellFormedTrace channels rows
 kept channels rows none are keeps = (
   contents-stay channels rows are keeps,
   λ few. rows-well_formed channels rows few (one-stretch channels rows none are (keeps-in-flight channels rows keeps)),
 )
 
-pub run-none_fresh : (d : Design) (m : Map) (offers : List Row → Offers) (gates : List Row → ℕ → Type 0) (rows : List Row)
-    → IsRun d m offers gates rows → NoneFresh rows
-run-none_fresh d m offers gates rows run t row at = (run.ruled t row at).2
+-- the rows after the first one have some before them
+pub none-behind : (later : Bool) (rows : List Row) → ((t : ℕ) (row : Row) → slice_get rows t ≡ Some row → row.fresh ≡ is_fresh_after later (take t rows))
+    → NoneFreshBehind rows
+none-behind later [] marks t row at = absurd (cc)
+none-behind false (x ∷ rows) marks t row at = marks (suc t) row at
+none-behind true (x ∷ rows) marks t row at = marks (suc t) row at
+
+pub stretch-keeps_contents : (later : Bool) (d : Design) (m : Map) (offers : List Row → Offers) (plan : List Row → ℕ) (rows : List Row)
+    → OffersStay m.channels offers → GatesStay m.channels plan → IsRunStretch later d m offers (GatesOf plan) rows
+    → AreStable m.channels rows → ContentsStay m.channels rows × HasWellFormedTrace m.channels rows
+stretch-keeps_contents later d m offers plan rows stay gates run stable = kept m.channels rows
+    (none-behind later rows (λ t row at. (run.ruled t row at).2)) run.marked
+    (run-keeps later d m offers (GatesOf plan) rows stay (plan-stays m.channels plan gates) run stable)
 
 pub run-keeps_contents : RunKeepsContents
-run-keeps_contents d m offers plan rows stay gates run stable = kept m.channels rows
-    (run-none_fresh d m offers (GatesOf plan) rows run) run.marked
-    (run-keeps d m offers (GatesOf plan) rows stay (plan-stays m.channels plan gates) run stable)
+run-keeps_contents = stretch-keeps_contents false

@@ -1,5 +1,5 @@
 -- There is exactly one run of each length, and it ends in exactly one way.
-use Rattle.std.proofs.Common.{◌≡◌, ℕ, List, Option, None, Some, length, take, refl, sym, ◌∙◌, arith, ⊎_elim}
+use Rattle.std.proofs.Common.{◌≡◌, ℕ, false, List, Option, None, Some, length, take, refl, sym, ◌∙◌, arith, ⊎_elim}
 use Rattle.std.proofs.Math.Logic.{∥∥₁_map}
 use Rattle.std.proofs.lemmas.List.{length-take-le}
 use Rattle.chan_map.specs.trace_model.declared.channel.Channel.{Channel}
@@ -29,7 +29,7 @@ module _ (d : Design) (m : Map) (offers : List Row → Offers) (gates : List Row
   pub one-that_ends : IsReady d m → OffersFit m.channels offers → GatesAreFixed m.channels gates → (n : ℕ)
       → OneThatEnds (IsTheRun d m offers gates n)
   one-that_ends ready fit one n = (
-    ∥∥₁_map (one-of_length d m ready offers fit gates one n).0
+    ∥∥₁_map (one-of_length false d m ready offers fit gates one n).0
         (λ (x : (rows : List Row) × (length rows ≡ n) × IsRun d m offers gates rows). the-run_of n x.0 x.1 x.2),
     one-end_of d m ready offers gates (λ before are. (one before are).only) n,
   )
@@ -40,6 +40,6 @@ plan-fixes channels plan fit before are = record { mask = plan before; is = refl
 pub one-run : OneRun
 one-run d m ready offers fit plan gates n =
     let fixed = plan-fixes m.channels plan gates in (
-      one-of_length d m ready offers fit (GatesOf plan) fixed n,
+      one-of_length false d m ready offers fit (GatesOf plan) fixed n,
       one-that_ends d m offers (GatesOf plan) ready fit fixed n,
     )

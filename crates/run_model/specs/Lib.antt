@@ -11,7 +11,6 @@ pub mod Building
 pub mod Alike
 pub mod AlikeLaws
 pub mod Stretches
-pub mod StretchLaws
 pub use Rattle.chan_map.specs as chan_map
 pub use Rattle.chan_map.specs.trace_model as trace_model
 pub use Rattle.chan_map.specs.vidi_bits as vidi_bits

@@ -1,5 +1,6 @@
 -- The design's part of runs and replays: rows that a design shows one after the other, from s_0 on.
-use Rattle.std.specs.Prelude.{◌≡◌, ℕ, suc, ◌++◌, ◌∷◌, [], List, Some, length, take, slice_get}
+use Rattle.std.specs.Prelude.{◌≡◌, ℕ, suc, ◌&&◌, Bool, ◌++◌, ◌∷◌, [], List, Some, length, take, slice_get}
+use Rattle.chan_map.specs.vidi_bits.Findings.{is_nil}
 use Rattle.chan_map.specs.trace_model.declared.channel.Channel.{Channel}
 use Rattle.chan_map.specs.trace_model.declared.row.Row.{Row}
 use Rattle.chan_map.specs.trace_model.Mask
@@ -21,6 +22,10 @@ pub record IsPlayed (d : Design) (m : Map) (rule : List Row → Row → Type 0) 
   pub marked : AreRows m.channels rows
   pub driven : IsDriven d m rows
   pub ruled : (t : ℕ) (row : Row) → slice_get rows t ≡ Some row → rule (take t rows) row
+
+-- whether the row after these rows since the last reset is fresh: the first one is, where that was a reset in mid-run
+abbrev pub is_fresh_after : Bool → List Row → Bool
+is_fresh_after later before = later && is_nil before
 
 -- all gates of the channels
 abbrev pub all_up : List Channel → ℕ

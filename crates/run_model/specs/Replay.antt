@@ -1,5 +1,5 @@
 -- *IsReplay*: which recorded events a replay lets come, and the replay of n cycles.
-use Rattle.std.specs.Prelude.{◌≡◌, ℕ, ◌<◌, ◌≤◌, ◌↔◌, true, false, List, Some, length, take, slice_get}
+use Rattle.std.specs.Prelude.{◌≡◌, ℕ, ◌<◌, ◌≤◌, ◌↔◌, Bool, true, false, List, Some, length, take, slice_get}
 use Rattle.chan_map.specs.vidi_bits.Number.{has}
 use Rattle.chan_map.specs.trace_model.declared.channel.Channel.{Channel}
 use Rattle.chan_map.specs.trace_model.declared.channel.Dir.{Dir}
@@ -16,7 +16,7 @@ use Rattle.chan_map.specs.trace_model.Row.{content_at}
 use Rattle.net_design.specs.declared.design.Design.{Design}
 use Rattle.chan_map.specs.declared.pins.Map.{Map}
 use Rattle.run_model.specs.Offers.{no_content}
-use Rattle.run_model.specs.Played.{IsPlayed, AreStable, StopsBefore, all_up}
+use Rattle.run_model.specs.Played.{IsPlayed, AreStable, StopsBefore, all_up, is_fresh_after}
 
 -- each channel's number of completions in the rows
 abbrev pub done : List Row → ℕ → ℕ
@@ -44,10 +44,19 @@ abbrev pub IsOffered : List Channel → List Packet → (ℕ → ℕ) → Row �
 IsOffered channels packets have row = (c : ℕ) (channel : Channel) → slice_get channels c ≡ Some channel
     → IsOfferedOn channels packets have row c channel.dir
 
--- a row of a replay: it has what is offered after the rows before it, all gates are up, and no reset came
+-- a row of a stretch of a replay, which shows one epoch: it has what is offered after the rows before it, all gates are up, and it is
+-- fresh where it is the first one behind a reset in mid-run
+abbrev pub IsEpochRow : Bool → List Channel → List Packet → List Row → Row → Type 0
+IsEpochRow later channels packets before row =
+    IsOffered channels packets (done before) row × (row.gates ≡ all_up channels) × (row.fresh ≡ is_fresh_after later before)
+
+-- a row of a replay of packets without a reset
 abbrev pub IsReplayRow : List Channel → List Packet → List Row → Row → Type 0
-IsReplayRow channels packets before row =
-    IsOffered channels packets (done before) row × (row.gates ≡ all_up channels) × (row.fresh ≡ false)
+IsReplayRow = IsEpochRow false
+
+-- the rows are a stretch of a replay, from the map's reset on or from one in mid-run to the next
+abbrev pub IsReplayStretch : Bool → Design → Map → List Packet → List Row → Type 0
+IsReplayStretch later d m packets rows = IsPlayed d m (IsEpochRow later m.channels packets) rows
 
 abbrev pub IsReplay : Design → Map → List Packet → List Row → Type 0
 IsReplay d m packets rows = IsPlayed d m (IsReplayRow m.channels packets) rows

@@ -1,7 +1,10 @@
--- Rows in stretches, each from one reset in mid-run to the next (this project's profile). A reset brings the design back to s_0, and then
--- nothing is in flight and nothing has completed. So the rows of a stretch are a run or a replay as without resets, and a design's rows
--- are those of its stretches, one after the other. Where they are cut is said by the list of stretches alone: today no row is fresh.
-use Rattle.std.specs.Prelude.{◌≡◌, ℕ, suc, ◌<◌, ◌≤◌, Bool, true, List, [], ◌∷◌, ◌++◌, Some, drop, length, slice_get, sum_by, take}
+-- Rows in stretches, each from one reset to the next (this project's profile). A reset in mid-run brings the design back to s_0, and then
+-- nothing is in flight and nothing has completed. So the rows of a stretch are a run or a replay as without resets, but that its first row
+-- is fresh, and a design's rows are those of its stretches, one after the other.
+use Rattle.std.specs.Prelude.{◌≡◌, ℕ, suc, ◌<◌, ◌≤◌, nat_lt, not, Bool, true, List, [], ◌∷◌, ◌++◌, Option, None, Some, All, drop, length}
+use Rattle.std.specs.Prelude.{slice_get, sum_by, take}
+use Rattle.std.specs.List.{flat_map}
+use Rattle.chan_map.specs.vidi_bits.Findings.{is_nil}
 use Rattle.chan_map.specs.trace_model.declared.channel.Channel.{Channel}
 use Rattle.chan_map.specs.trace_model.declared.channel.Dir.TheVariants.{Inward}
 use Rattle.chan_map.specs.trace_model.declared.event.Kind.TheVariants.{Start, End}
@@ -10,14 +13,16 @@ use Rattle.chan_map.specs.trace_model.declared.row.Offers.{Offers}
 use Rattle.chan_map.specs.trace_model.declared.row.Row.{Row}
 use Rattle.chan_map.specs.trace_model.Packet.{count}
 use Rattle.chan_map.specs.trace_model.Recording.{shown}
+use Rattle.chan_map.specs.trace_model.Stability.{IsUnstableAt}
 use Rattle.net_design.specs.declared.design.Design.{Design}
 use Rattle.chan_map.specs.declared.pins.Map.{Map}
-use Rattle.run_model.specs.Replay.{IsReplay, done}
-use Rattle.run_model.specs.Run.{IsRun}
+use Rattle.run_model.specs.Played.{AreStable}
+use Rattle.run_model.specs.Replay.{IsReplayStretch, done}
+use Rattle.run_model.specs.Run.{IsRunStretch}
 
 -- ---- stretches of any kind
--- x is what is so far: of a run the rows before, of a replay the epochs to come. `Is x` says which rows may follow it, `Turns x rows` that a
--- reset comes behind them, and `next x rows` is what is so far then.
+-- x is what is so far: of a run the stretches before, of a replay the epochs to come. `Is x` says which rows may follow it, `Turns x rows`
+-- that a reset comes behind them, and `next x rows` is what is so far then.
 
 -- no shorter front of the rows, but none at all, is one behind which a reset comes
 abbrev pub IsUnturned : {X : Type 0} → (X → List Row → Type 0) → X → List Row → Type 0
@@ -42,19 +47,48 @@ AreStretches Is Turns next x (rows ∷ more ∷ rest) =
 abbrev pub row_count : List (List Row) → ℕ
 row_count stretches = sum_by length stretches
 
+-- their rows, one after the other
+abbrev pub rows_of : List (List Row) → List Row
+rows_of stretches = flat_map (λ (rows : List Row). rows) stretches
+
+-- one stretch more
+abbrev pub and_stretch : List (List Row) → List Row → List (List Row)
+and_stretch past rows = past ++ rows ∷ []
+
 -- ---- *IsRun* with resets
--- what is offered behind rows before, after the rows since
-abbrev pub offers_behind : (List Row → Offers) → List Row → List Row → Offers
-offers_behind offers past before = offers (past ++ before)
+-- what is offered behind these stretches, after the rows since
+abbrev pub offers_behind : (List Row → Offers) → List (List Row) → List Row → Offers
+offers_behind offers past before = offers (rows_of past ++ before)
 
--- a stretch of a run behind the rows before it. The gates know where it begins.
-abbrev pub IsRunBehind : Design → Map → (List Row → Offers) → (List Row → List Row → ℕ → Type 0) → List Row → List Row → Type 0
-IsRunBehind d m offers gates past rows = IsRun d m (offers_behind offers past) (gates past) rows
+-- a stretch of a run behind those before it. The gates know where it begins.
+abbrev pub IsRunBehind : Design → Map → (List Row → Offers) → (List (List Row) → List Row → ℕ → Type 0) → List (List Row) → List Row → Type 0
+IsRunBehind d m offers gates past rows = IsRunStretch (not (is_nil past)) d m (offers_behind offers past) (gates past) rows
 
--- a run in stretches: `turns` tells of all rows so far whether a reset comes behind them
-abbrev pub AreRun : Design → Map → (List Row → Offers) → (List Row → List Row → ℕ → Type 0) → (List Row → Bool) → List (List Row) → Type 0
-AreRun d m offers gates turns stretches =
-    AreStretches (IsRunBehind d m offers gates) (λ past rows. turns (past ++ rows) ≡ true) (λ past rows. past ++ rows) [] stretches
+-- `turns` tells of all rows so far whether a reset comes behind them
+abbrev pub Turns : (List Row → Bool) → List (List Row) → List Row → Type 0
+Turns turns past rows = turns (rows_of past ++ rows) ≡ true
+
+-- a run in stretches
+abbrev pub AreRun : Design → Map → (List Row → Offers) → (List (List Row) → List Row → ℕ → Type 0) → (List Row → Bool) → List (List Row) → Type 0
+AreRun d m offers gates turns stretches = AreStretches (IsRunBehind d m offers gates) (Turns turns) and_stretch [] stretches
+
+-- the rows of all stretches, of which `here` is the last, are stable, and the next row is unstable; c is the lowest channel on which it is
+pub record StopsBehind (Are : List (List Row) → Type 0) (channels : List Channel) (past : List (List Row)) (here : List Row) (c : ℕ)
+    : Type 0 where
+  pub next : Row
+  pub played : Are (and_stretch past (here ++ next ∷ []))
+  pub before : All (AreStable channels) past
+  pub stable : AreStable channels here
+  pub unstable : IsUnstableAt channels (here ++ next ∷ []) (length here) c
+
+-- the run of n cycles in stretches, of which `here` is the last: the n rows where none is unstable, else the rows before the first
+-- unstable one, with its lowest channel
+abbrev pub AreTheRun : Design → Map → (List Row → Offers) → (List (List Row) → List Row → ℕ → Type 0) → (List Row → Bool) → ℕ
+    → List (List Row) → List Row → Option ℕ → Type 0
+AreTheRun d m offers gates turns n past here None = AreRun d m offers gates turns (and_stretch past here)
+    × All (AreStable m.channels) past × AreStable m.channels here × (length (rows_of past ++ here) ≡ n)
+AreTheRun d m offers gates turns n past here (Some c) = StopsBehind (AreRun d m offers gates turns) m.channels past here c
+    × (length (rows_of past ++ here) < n)
 
 -- ---- *IsReplay* with resets
 -- An epoch of a trace is its packets from one reset to the next.
@@ -65,10 +99,10 @@ abbrev pub IsDone : List Channel → List Packet → List Row → Type 0
 IsDone channels packets rows = (c : ℕ) (x : Channel) → slice_get channels c ≡ Some x
     → (count End c packets ≤ done rows c) × (x.dir ≡ Inward → count Start c packets ≤ shown Start c rows)
 
--- the rows are a replay of the first of these epochs
-abbrev pub IsEpochReplay : Design → Map → List (List Packet) → List Row → Type 0
-IsEpochReplay d m [] rows = ⊥
-IsEpochReplay d m (packets ∷ later) rows = IsReplay d m packets rows
+-- the rows are a replay of the first of these epochs, which is no trace's first where fewer than n are left
+abbrev pub IsEpochReplay : Design → Map → ℕ → List (List Packet) → List Row → Type 0
+IsEpochReplay d m n [] rows = ⊥
+IsEpochReplay d m n (packets ∷ later) rows = IsReplayStretch (nat_lt (suc (length later)) n) d m packets rows
 
 -- the first of these epochs is done, and there is a next one
 abbrev pub TurnsEpoch : List Channel → List (List Packet) → List Row → Type 0
@@ -79,7 +113,7 @@ TurnsEpoch channels (packets ∷ next ∷ later) rows = IsDone channels packets 
 -- a replay of these epochs, a stretch for each that it reaches
 abbrev pub AreReplayed : Design → Map → List (List Packet) → List (List Row) → Type 0
 AreReplayed d m epochs stretches =
-    AreStretches (IsEpochReplay d m) (TurnsEpoch m.channels) (λ left rows. drop 1 left) epochs stretches
+    AreStretches (IsEpochReplay d m (length epochs)) (TurnsEpoch m.channels) (λ left rows. drop 1 left) epochs stretches
 
 -- the last row is in epoch e, which has these packets and of which these rows are shown; of no rows it is epoch 0
 pub record IsLastEpoch (epochs : List (List Packet)) (stretches : List (List Row)) (e : ℕ) (packets : List Packet) (rows : List Row)

@@ -4,14 +4,13 @@
 //! row that a state shows, and the state after it), `Offers` (what the environment's part of a row is), `Played` (rows that a
 //! design shows under a rule), `Run`, `Replay`, `Held` (what a replay that hasn't ended waits for), `Alike` (designs that no map
 //! and no run can tell apart) and `Stretches` (runs and replays with resets in mid-run). `Laws` says what follows for runs and
-//! replays, `AlikeLaws` for designs that are alike, `StretchLaws` for runs and replays in stretches.
+//! replays, `AlikeLaws` for designs that are alike; what follows in stretches is in `run_laws`.
 #![tactic(auto)]
 
 mod alike;
 mod held;
 mod laws;
 mod pins;
-mod stretches;
 
 pub use alike::{driven_alike, maps_alike, one_end, runs_alike};
 pub use chan_map;
@@ -22,7 +21,3 @@ pub use laws::{
     run_keeps_contents,
 };
 pub use pins::{PinNumber, PinNumbers};
-pub use stretches::{
-    no_circle_in_stretches, one_replay_in_stretches, one_run_in_stretches, order_in_stretches,
-    replay_stretches_keep_contents, run_stretches_keep_contents,
-};

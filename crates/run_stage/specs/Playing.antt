@@ -1,5 +1,5 @@
 -- What a stage promises of a cycle, where it stands between two, and how cycles end.
-use Rattle.std.specs.Prelude.{◌≡◌, ℕ, ◌<◌, ◌≤◌, Bool, true, false, List, [], ◌∷◌, ◌++◌, Option, None, Some, length, take}
+use Rattle.std.specs.Prelude.{◌≡◌, ℕ, ◌<◌, ◌≤◌, Bool, true, false, List, [], Option, None, Some, length, take}
 use Rattle.chan_replayer.specs.trace_model.declared.channel.Channel.{Channel}
 use Rattle.chan_replayer.specs.trace_model.declared.row.Row.{Row}
 use Rattle.chan_replayer.specs.trace_model.Row.{row_before, IsMarked, IsOver}
@@ -21,9 +21,9 @@ pub record IsShown (d : Design) (m : Map) (s : Values) (rows : List Row) (allows
   pub after : Values
   pub step : IsStep d m s row after
 
--- the clock commits the row
-abbrev pub GoesTo : (Design → Values → List Row → Type 0) → Design → Map → Values → List Row → Row → Type 0
-GoesTo runs d m s rows row = (after : Values) × IsStep d m s row after × runs d after (rows ++ row ∷ [])
+-- what a stage runs where it wasn't reset in mid-run: after these rows
+abbrev pub since : (Design → Values → List Row → List Row → Type 0) → Design → Values → List Row → Type 0
+since runs d s rows = runs d s [] rows
 
 -- a stage was reset and has shown no row since
 abbrev pub Begins : Design → Map → (Design → Values → List Row → Type 0) → Type 0

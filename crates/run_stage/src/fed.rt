@@ -9,13 +9,17 @@ impl<S: ReplayShell> Stage<Feed> for S {
 
     ghost map = { S.map };
 
-    ghost runs = { S.runs };
+    ghost runs = { λ s d state before rows. S.runs s d state rows };
 
     ghost driven = { S.driven };
 
     ghost cycles = { S.cycles };
 
     ghost place = { λ _. None };
+
+    type Own = ();
+
+    ghost own = { λ _. tt };
 
     fn reset(&mut self) {
         ReplayShell::reset(self);

@@ -11,13 +11,17 @@ impl<S: Shell> Stage<Gated> for S {
 
     ghost map = { S.map };
 
-    ghost runs = { λ s d state rows. S.runs s d state (row_before rows (length rows)) };
+    ghost runs = { λ s d state before rows. S.runs s d state (row_before rows (length rows)) };
 
     ghost driven = { S.driven };
 
     ghost cycles = { λ _. 0 };
 
     ghost place = { S.place };
+
+    type Own = ();
+
+    ghost own = { λ _. tt };
 
     fn reset(&mut self) {
         Shell::reset(self);

@@ -9,7 +9,7 @@ ghost use Rattle.run_stage.specs.Playing.{AreRuled, IsLast};
 use crate::given::Given;
 use chan_replayer::run_model::trace_model::Row;
 
-/// Who gives what a stage is given in each cycle, and keeps the rows that it shows. What a player is for, its rule above all, is said of
+/// Who gives what a stage is given in each cycle, keeps the rows that it shows, and asks for no reset. What a player is for, its rule above all, is said of
 /// the player that it was at the start, `first` below.
 pub trait Player<G: Given> {
     /// Why no further row can be kept.
@@ -38,13 +38,6 @@ pub trait Player<G: Given> {
         requires { (first : Self) × (rows : List Row) × stands first self.now rows × IsOver (map first).channels last.now }
         ensures { (first : Self) (rows : List Row) → stands first self.now rows → AreRuled (map first) (rule first) rows
             → IsLast (row_before rows (length rows)) last.now → ends first rows result };
-
-    /// Whether the next row is fresh. No row is, as yet.
-    fn is_fresh(&self) -> bool
-        ensures { result ≡ false }
-    {
-        false
-    }
 
     /// What the stage is given in the next cycle: each row that it allows is one that has to come.
     fn given(&self) -> &G

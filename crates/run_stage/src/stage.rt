@@ -1,6 +1,6 @@
 //! Designs that run cycle by cycle.
 
-ghost use Rattle.std.specs.Prelude.{◌≡◌, ◌+◌, ◌<◌, ◌≤◌, ℕ, List, Option};
+ghost use Rattle.std.specs.Prelude.{◌≡◌, ◌+◌, ◌++◌, ◌<◌, ◌≤◌, ℕ, List, Option};
 ghost use Rattle.std.specs.Borrow.{GName};
 ghost use Rattle.chan_replayer.specs.trace_model.declared.packet.TheConstants.{MOST_CYCLES};
 ghost use Rattle.chan_replayer.specs.trace_model.declared.row.Row.{Row};
@@ -9,7 +9,8 @@ ghost use Rattle.net_design.specs.declared.design.Design.{Design};
 ghost use Rattle.net_design.specs.declared.values.Values.{Values};
 ghost use Rattle.chan_replayer.specs.chan_map.declared.pins.Map.{Map};
 ghost use Rattle.chan_replayer.specs.chan_monitor.Shell.{HasPlaces};
-ghost use Rattle.run_stage.specs.Playing.{Begins, GoesTo, IsShown};
+ghost use Rattle.run_stage.specs.Playing.{IsShown};
+ghost use Rattle.run_stage.specs.Stretching.{BeginsBehind, GoesTo};
 
 use crate::given::Given;
 use chan_replayer::run_model::trace_model::Row;
@@ -19,8 +20,9 @@ pub trait Stage<G: Given> {
     /// The map of the design's channels, which stays the same.
     ghost map: { Self → Map };
 
-    /// The stage runs this design; the next cycle begins in this state, after these rows since it was made or last reset.
-    ghost runs: { Self → Design → Values → List Row → Type 0 };
+    /// The stage runs this design; the next cycle begins in this state, after the first rows, and then these since it was made or last
+    /// reset.
+    ghost runs: { Self → Design → Values → List Row → List Row → Type 0 };
 
     /// The last `drive` filled this row, and there was no `clock` and no `reset` since.
     ghost driven: { Self → Row → Type 0 };
@@ -31,12 +33,20 @@ pub trait Stage<G: Given> {
     /// The borrow that the design runs through, where there is one.
     ghost place: { Self → Option GName };
 
+    /// What else stays the same.
+    type Own;
+
+    /// What it is.
+    ghost own: { Self → Self.Own };
+
     /// Loads the design and runs the map's reset cycles: the next cycle begins in s_0, after no row.
     fn reset(&mut self)
-        ensures first { (d : Design) (s : Values) (rows : List Row) → runs self.old d s rows → Begins d (map self.old) (runs self.new) }
+        ensures first { (d : Design) (s : Values) (before rows : List Row) → runs self.old d s before rows
+            → BeginsBehind d (map self.old) (runs self.new) (before ++ rows) }
         ensures cycles { cycles self.new ≡ 0 }
         ensures map { map self.new ≡ map self.old }
-        ensures place { place self.new ≡ place self.old };
+        ensures place { place self.new ≡ place self.old }
+        ensures own { own self.new ≡ own self.old };
 
     /// Settles everything for what is given, and fills the row. Whether the row is fresh is the caller's to say, and stays. The row has a
     /// place for each port's number, as `row_over` makes it.
@@ -44,23 +54,25 @@ pub trait Stage<G: Given> {
         requires fits { G.fits (map self.old).channels given.now }
         requires places { HasPlaces (map self.old).channels row.old }
         ensures over { IsOver (map self.old).channels row.new }
-        ensures row { (d : Design) (s : Values) (rows : List Row) → runs self.old d s rows
+        ensures row { (d : Design) (s : Values) (before rows : List Row) → runs self.old d s before rows
             → IsShown d (map self.old) s rows (G.allows (map self.old).channels given.now) row.new }
         ensures fresh { row.new.fresh ≡ row.old.fresh }
-        ensures runs { (d : Design) (s : Values) (rows : List Row) → runs self.old d s rows → runs self.new d s rows }
+        ensures runs { (d : Design) (s : Values) (before rows : List Row) → runs self.old d s before rows → runs self.new d s before rows }
         ensures driven { driven self.new row.new }
         ensures cycles { cycles self.new ≡ cycles self.old }
         ensures map { map self.new ≡ map self.old }
-        ensures place { place self.new ≡ place self.old };
+        ensures place { place self.new ≡ place self.old }
+        ensures own { own self.new ≡ own self.old };
 
     /// Commits the cycle of the last `drive`: the state becomes the next one, and the row joins those before. At most `MOST_CYCLES`
     /// cycles follow one another without a reset.
     fn clock(&mut self)
         requires driven { (row : Row) × driven self.old row }
         requires few { cycles self.old < MOST_CYCLES }
-        ensures next { (d : Design) (s : Values) (rows : List Row) (row : Row) → runs self.old d s rows → driven self.old row
-            → GoesTo (runs self.new) d (map self.old) s rows row }
+        ensures next { (d : Design) (s : Values) (before rows : List Row) (row : Row) → runs self.old d s before rows → driven self.old row
+            → GoesTo (runs self.new) d (map self.old) s before rows row }
         ensures cycles { cycles self.new ≤ cycles self.old + 1 }
         ensures map { map self.new ≡ map self.old }
-        ensures place { place self.new ≡ place self.old };
+        ensures place { place self.new ≡ place self.old }
+        ensures own { own self.new ≡ own self.old };
 }

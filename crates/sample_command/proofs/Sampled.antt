@@ -1,5 +1,5 @@
 -- From a recording in memory, and a replay of its trace, to the answer of `sample`.
-use Rattle.std.proofs.Common.{◌≡◌, ◌≤◌, ℕ, Bool, List, Option, None, Some, Result, Ok, Err, cond, inr, refl, sym, ap, subst, ◌∙◌}
+use Rattle.std.proofs.Common.{◌≡◌, ◌≤◌, ℕ, Bool, List, [], Option, None, Some, Result, Ok, Err, cond, inr, refl, sym, ap, subst, ◌∙◌}
 use Rattle.std.specs.Prelude.{IfOk, IsSome, IsSomeAnd, codes}
 use Rattle.std.specs.Cmp.Lexicographic.{nat_list_cmp_total}
 use Rattle.std.specs.FinMap.{get, insert, get-insert}
@@ -58,15 +58,15 @@ whole-traced w m shelf P packets (rows, (run, held, started), is) =
     has-held (IsTraceOf w) shelf m (encode (trace_of w.bound.channels rows)) held (rows, run, refl)
 
 -- ---- of four texts
-module _ (design map script stalls : List ℕ) (b : Bench) (plan : Stalls) (bench : IsBench design map script b)
+module _ (design map script stalls : List ℕ) (b : Bench) (plan : Stalls) (bench : IsBench design map script b) (none : b.script.resets ≡ [])
     (planned : ReadsStalls (read_lines stalls) (Ok plan)) (holds : need (sizes_of b.device.map.channels) ≤ plan.capacity) where
   traced-texts : (bytes : List ℕ) → IsTraceOf (course_of b plan) bytes → IsTraced design map script stalls bytes
   traced-texts bytes (rows, run, same) =
-      (b, plan, rows, record { bench = bench; planned = planned; holds = holds; run = run }, same)
+      (b, plan, rows, record { bench = bench; no_resets = none; planned = planned; holds = holds; run = run }, same)
 
   pub unstable-texts : Implies (IsUnstable (course_of b plan)) (IsUntraced design map script stalls)
   unstable-texts a x (rows, channel, run, said) =
-      inr (b, plan, rows, channel, record { bench = bench; planned = planned; holds = holds; run = run }, said)
+      inr (b, plan, rows, channel, record { bench = bench; no_resets = none; planned = planned; holds = holds; run = run }, said)
 
   pub traced-all : (r : Result MemShelf Ended) → IfOk r (HasTrace (IsTraceOf (course_of b plan)))
       → IfOk r (HasTrace (IsTraced design map script stalls))

@@ -33,9 +33,10 @@ sample_cycles = MOST_CYCLES
 
 -- ---- recording, as `record` does
 
--- the texts say this design with its map, this script and this plan, and these rows are their run, which ends so
+-- the texts say this design with its map, this script without resets and this plan, and these rows are their run, which ends so
 pub record IsRunOfTexts (design map script stalls : List ℕ) (b : Bench) (plan : Stalls) (rows : List Row) (stop : Option ℕ) : Type 0 where
   pub bench : IsBench design map script b
+  pub no_resets : b.script.resets ≡ []
   pub planned : ReadsStalls (read_lines stalls) (Ok plan)
   pub holds : need (sizes_of b.device.map.channels) ≤ plan.capacity
   pub run : IsTheRunOf (course_of b plan) rows stop

@@ -10,12 +10,13 @@ use Rattle.room_ledger.specs.vidi_bits.Findings.{told_if}
 use Rattle.env_script.specs.vidi_lines.declared.lines.Line.{Line}
 use Rattle.env_script.specs.vidi_lines.Lines.{file_lines, line_unless_bad, is_bad, words_between}
 use Rattle.room_ledger.specs.trace_model.declared.packet.TheConstants.{MOST_CYCLES}
-use Rattle.env_script.specs.declared.said.StepLine.{StepLine}
+use Rattle.env_script.specs.declared.said.ScriptLine.{ScriptLine}
+use Rattle.env_script.specs.declared.said.ScriptLine.TheVariants.{Step, Reset}
 use Rattle.env_script.specs.declared.error.ScriptError.{ScriptError}
 use Rattle.env_script.specs.declared.error.ScriptError.TheVariants as E
 use Rattle.env_script.specs.Used.{is_blank, number_in}
 use Rattle.env_script.specs.Forms.{keyword_of}
-use Rattle.env_script.specs.Reasons.{read_lines, said, is_step, step_faults, all_said, names_channels, fits_numbers, channel_faults, number_faults}
+use Rattle.env_script.specs.Reasons.{read_lines, said, has_form, form_faults, all_said, names_channels, fits_numbers, channel_faults, number_faults}
 use Rattle.env_script.specs.Reasons.{faults_behind, faults_from, script_faults}
 use Rattle.sample_gen.specs.Sequence.{drawn}
 use Rattle.sample_gen.specs.Sample.{cycles, send_line, script}
@@ -26,33 +27,43 @@ use Rattle.sample_gen.proofs.Taken.{is_line, line_taken, each_in, off}
 
 -- lines from the one with number m on
 record Fine (m : ℕ) (lines : List (Option Line)) : Type 0 where
-  forms : step_faults channels m lines ≡ []
+  forms : form_faults channels m lines ≡ []
   named : channel_faults channels (all_said channels m lines) ≡ []
   fitting : number_faults channels (all_said channels m lines) ≡ []
 
-abbrev line_test : ℕ → Option Line → Bool
-line_test m line = is_step channels m line
-    && (list_all (names_channels channels) (said channels m line) && list_all (fits_numbers channels) (said channels m line))
+-- a step on a channel that is there, with numbers that fit; a sample has no reset
+abbrev is_fine : ScriptLine → Bool
+is_fine (Step l) = names_channels channels l && fits_numbers channels l
+is_fine (Reset line time) = false
 
-passing : (test : StepLine → Bool) (xs ys : List StepLine) → list_all test xs ≡ true
-    → flat_map (λ (l : StepLine). told_if (not (test l)) l.line) ys ≡ []
-    → flat_map (λ (l : StepLine). told_if (not (test l)) l.line) (xs ++ ys) ≡ []
-passing test [] ys all rest = rest
-passing test (x ∷ xs) ys all rest =
-    let parts = and_parts (test x) (list_all test xs) all in
-    ap (λ (t : Bool). told_if (not t) x.line ++ flat_map (λ (l : StepLine). told_if (not (test l)) l.line) (xs ++ ys)) parts.0
-    ∙ passing test xs ys parts.1 rest
+abbrev line_test : ℕ → Option Line → Bool
+line_test m line = has_form channels m line && list_all is_fine (said channels m line)
+
+passing_names : (xs ys : List ScriptLine) → list_all is_fine xs ≡ true → channel_faults channels ys ≡ []
+    → channel_faults channels (xs ++ ys) ≡ []
+passing_names [] ys all rest = rest
+passing_names (Step l ∷ xs) ys all rest =
+    let parts = and_parts (is_fine (Step l)) (list_all is_fine xs) all in
+    let here = and_parts (names_channels channels l) (fits_numbers channels l) parts.0 in
+    ap (λ (t : Bool). told_if (not t) l.line ++ channel_faults channels (xs ++ ys)) here.0 ∙ passing_names xs ys parts.1 rest
+passing_names (Reset line time ∷ xs) ys all rest = absurd (false≢true all)
+
+passing_numbers : (xs ys : List ScriptLine) → list_all is_fine xs ≡ true → number_faults channels ys ≡ []
+    → number_faults channels (xs ++ ys) ≡ []
+passing_numbers [] ys all rest = rest
+passing_numbers (Step l ∷ xs) ys all rest =
+    let parts = and_parts (is_fine (Step l)) (list_all is_fine xs) all in
+    let here = and_parts (names_channels channels l) (fits_numbers channels l) parts.0 in
+    ap (λ (t : Bool). told_if (not t) l.line ++ number_faults channels (xs ++ ys)) here.1 ∙ passing_numbers xs ys parts.1 rest
+passing_numbers (Reset line time ∷ xs) ys all rest = absurd (false≢true all)
 
 fine_more : (m : ℕ) (line : Option Line) (lines : List (Option Line)) → line_test m line ≡ true → Fine (m + 1) lines → Fine m (line ∷ lines)
 fine_more m line lines passes fine =
-    let parts = and_parts (is_step channels m line)
-    (list_all (names_channels channels) (said channels m line) && list_all (fits_numbers channels) (said channels m line)) passes in
-    let more = and_parts (list_all (names_channels channels) (said channels m line)) (list_all (fits_numbers channels) (said channels m line))
-    parts.1 in
+    let parts = and_parts (has_form channels m line) (list_all is_fine (said channels m line)) passes in
     record {
-      forms = ap (λ (t : Bool). told_if (not t) m ++ step_faults channels (m + 1) lines) parts.0 ∙ fine.forms;
-      named = passing (names_channels channels) (said channels m line) (all_said channels (m + 1) lines) more.0 fine.named;
-      fitting = passing (fits_numbers channels) (said channels m line) (all_said channels (m + 1) lines) more.1 fine.fitting;
+      forms = ap (λ (t : Bool). told_if (not t) m ++ form_faults channels (m + 1) lines) parts.0 ∙ fine.forms;
+      named = passing_names (said channels m line) (all_said channels (m + 1) lines) parts.1 fine.named;
+      fitting = passing_numbers (said channels m line) (all_said channels (m + 1) lines) parts.1 fine.fitting;
     }
 
 -- ---- what is sent
@@ -126,7 +137,7 @@ errors a b t d = map (λ (m : ℕ). E.Line m) a ++ (map (λ (m : ℕ). E.Channel
 some_cycles : (o : Option ℕ) (lines : List (Option Line)) → within o ≡ true → Fine 2 lines → faults_behind channels 1 o lines ≡ []
 some_cycles None lines h fine = absurd (false≢true h)
 some_cycles (Some n) lines h fine =
-    let said' : List StepLine = all_said channels 2 lines in
+    let said' : List ScriptLine = all_said channels 2 lines in
     ap (λ (a : List ℕ). errors a (channel_faults channels said') (between 1 MOST_CYCLES n) (number_faults channels said')) fine.forms
     ∙ ap (λ (b : List ℕ). errors [] b (between 1 MOST_CYCLES n) (number_faults channels said')) fine.named
     ∙ ap (λ (t : Bool). errors [] [] t (number_faults channels said')) h

@@ -25,13 +25,14 @@ pub struct Plan {
     pub stalls: Stalls,
 }
 
-/// The script of these lines, over a map's channels.
+/// The script of these lines, over a map's channels, where it has no reset.
 fn script_of(alloc: Global, lines: &[u8], map: &Map) -> Result<Script, Ended>
     requires { length lines.now ≤ 4194304 }
     ensures { IfOk result (FitsChannels map.now.channels) }
 {
     match read_script(alloc, lines, map) {
-        Ok(script) => Ok(script),
+        Ok(script) if script.resets().is_empty() => Ok(script),
+        Ok(_) => Err(Ended::Usage),
         Err(error) => Err(Ended::from(error)),
     }
 }

@@ -1,15 +1,15 @@
 -- The commands on traces: no failed write among their answers, and the same where no read failed.
-use Rattle.std.proofs.Common.{◌≡◌, ℕ, Bool, List, Option, inl, inr}
+use Rattle.std.proofs.Common.{ℕ, List, Option, inl, inr}
 use Rattle.vidi_answer.specs.trace_code.trace_model.declared.trace.Trace.{Trace}
 use Rattle.vidi_answer.specs.vidi_io.Shelf.{Files}
 use Rattle.vidi_answer.specs.report_text.declared.reason.Word.TheVariants as words
 use Rattle.vidi_answer.specs.report_text.declared.reason.Reason.TheVariants.{BadTrace, OtherChannels}
-use Rattle.vidi_answer.specs.declared.status.Status.{Status}
-use Rattle.vidi_answer.specs.declared.status.Status.TheVariants.{Done, WriteFault}
+use Rattle.vidi_answer.specs.declared.status.Status.TheVariants.{Done}
 use Rattle.vidi_answer.specs.Reading.{Reading}
 use Rattle.trace_commands.specs.Said.{dump_text, no_divergence_line}
 use Rattle.vidi_answer.specs.Steps.{IsSaid}
-use Rattle.trace_commands.specs.Traces.{trace_limit, Decoding, Dumps, Compared, ComparedFiles, Compares, IsHeaderless, Saves}
+use Rattle.trace_commands.specs.Migrating.{old_trace_limit, IsNoOldTrace, IsUnmigrated}
+use Rattle.trace_commands.specs.Traces.{trace_limit, Decoding, Dumps, Compared, ComparedFiles, Compares, IsHeaderless, IsUnsaved}
 use Rattle.vidi_answer.proofs.Chain.{Implies}
 use Rattle.vidi_answer.proofs.QuietDecoding.{mute-decoding, mute-verdict}
 use Rattle.vidi_answer.proofs.Quiet.{Mute, mute-reading, mute-refusal, mute-said, done-goes, quiet-reading}
@@ -31,11 +31,18 @@ mute-compares trace other files F = mute-reading trace_limit words.Trace trace f
     (λ second. mute-decoding words.Trace first (λ t. Decoding words.Other second (Compared t))
     (λ t. mute-decoding words.Other second (Compared t) (mute-compared t))))
 
-pub mute-saves : (trace out : List ℕ) (files : Option Files) (F : List ℕ → Type 0) (P : Bool → Type 0) (x : List ℕ) (left : Option Files)
-    → Saves trace out files F P WriteFault x left → ⊥
-mute-saves trace out files F P x left (inl (unsaved, same)) =
-    mute-reading trace_limit words.Trace trace files F IsHeaderless (λ file y (none, s). mute-refusal words.Trace (BadTrace 0) y s) x unsaved
-mute-saves trace out files F P x left (inr (t, whole, s, same)) = let e : WriteFault ≡ Done = s.0 in cc
+mute-headerless : (file : List ℕ) → Mute (IsHeaderless file)
+mute-headerless file x (inl (old, (none, s))) = mute-refusal words.Trace (BadTrace 0) x s
+mute-headerless file x (inr (new, (none, s))) = mute-refusal words.Trace (BadTrace 0) x s
+
+pub mute-unsaved : (trace : List ℕ) (files : Option Files) (F : List ℕ → Type 0) → Mute (IsUnsaved trace files F)
+mute-unsaved trace files F = mute-reading trace_limit words.Trace trace files F IsHeaderless mute-headerless
+
+mute-no_old_trace : (file : List ℕ) → Mute (IsNoOldTrace file)
+mute-no_old_trace file x (at, fault, none, s) = mute-refusal words.Trace (BadTrace at) x s
+
+pub mute-unmigrated : (trace : List ℕ) (files : Option Files) (F : List ℕ → Type 0) → Mute (IsUnmigrated trace files F)
+mute-unmigrated trace files F = mute-reading old_trace_limit words.Trace trace files F IsNoOldTrace mute-no_old_trace
 
 -- ---- where no read failed
 pub quiet-dumps : (trace : List ℕ) (files : Option Files) (F : List ℕ → Type 0) → ((name : List ℕ) → ¬ F name)
@@ -48,8 +55,12 @@ quiet-compares trace other files F quiet = quiet-reading trace_limit words.Trace
     (λ first. quiet-reading trace_limit words.Other other files F (ComparedFiles first) (ComparedFiles first) (quiet other)
     (λ second a x rest. rest))
 
-pub quiet-saves : (trace out : List ℕ) (files : Option Files) (F : List ℕ → Type 0) (P : Bool → Type 0) (a : Status) (x : List ℕ)
-    (left : Option Files) → ((name : List ℕ) → ¬ F name) → Saves trace out files F P a x left → Saves trace out files (λ _. ⊥) P a x left
-quiet-saves trace out files F P a x left quiet (inl (unsaved, same)) =
-    inl (quiet-reading trace_limit words.Trace trace files F IsHeaderless IsHeaderless (quiet trace) (λ file b y rest. rest) a x unsaved, same)
-quiet-saves trace out files F P a x left quiet (inr saved) = inr saved
+pub quiet-unsaved : (trace : List ℕ) (files : Option Files) (F : List ℕ → Type 0) → ((name : List ℕ) → ¬ F name)
+    → Implies (IsUnsaved trace files F) (IsUnsaved trace files (λ _. ⊥))
+quiet-unsaved trace files F quiet = quiet-reading trace_limit words.Trace trace files F IsHeaderless IsHeaderless (quiet trace)
+    (λ file a x rest. rest)
+
+pub quiet-unmigrated : (trace : List ℕ) (files : Option Files) (F : List ℕ → Type 0) → ((name : List ℕ) → ¬ F name)
+    → Implies (IsUnmigrated trace files F) (IsUnmigrated trace files (λ _. ⊥))
+quiet-unmigrated trace files F quiet = quiet-reading old_trace_limit words.Trace trace files F IsNoOldTrace IsNoOldTrace (quiet trace)
+    (λ file a x rest. rest)

@@ -8,6 +8,18 @@ pub use Rattle.vidi_answer.specs.Said.{diverged_text}
 abbrev pub no_divergence_line : List ℕ
 no_divergence_line = codes "no divergence" ++ newline
 
+-- this, and `N packets`
+abbrev pub packets_line : List ℕ → ℕ → List ℕ
+packets_line label n = label ++ (decimal n ++ (codes " packets" ++ newline))
+
 -- `salvaged N packets`
 abbrev pub salvaged_line : ℕ → List ℕ
-salvaged_line n = codes "salvaged " ++ (decimal n ++ (codes " packets" ++ newline))
+salvaged_line = packets_line (codes "salvaged ")
+
+-- `migrated N packets`
+abbrev pub migrated_line : ℕ → List ℕ
+migrated_line = packets_line (codes "migrated ")
+
+-- `moved, N packets`
+abbrev pub moved_line : ℕ → List ℕ
+moved_line = packets_line (codes "moved, ")

@@ -1,5 +1,6 @@
--- A trace that has an old encoding has one of today, which is at most twice as long.
-use Rattle.std.proofs.Common.{◌≡◌, ℕ, ◌+◌, ◌*◌, ◌≤◌, Bool, true, false, cond, List, [], ◌∷◌, ◌++◌, length, All, ap, sym, ◌∙◌, arith}
+-- A trace that has an old encoding, or is salvaged as one, has one of today, which is at most twice as long.
+use Rattle.std.proofs.Common.{◌≡◌, ℕ, ◌+◌, ◌*◌, ◌^◌, ◌<◌, ◌≤◌, cond, List, [], ◌∷◌, ◌++◌, length, All, refl, ap}
+use Rattle.std.proofs.Common.{◌∙◌, arith}
 use Rattle.std.specs.List.{flat_map}
 use Rattle.std.proofs.lemmas.List.{length-append}
 use Rattle.std.proofs.lemmas.List.Elements.{All-head, All-tail}
@@ -10,10 +11,12 @@ use Rattle.trace_code.specs.trace_model.Channel.{IsTable}
 use Rattle.trace_code.specs.trace_model.Length.{mask_len}
 use Rattle.trace_code.specs.trace_model.Packet.{widths_under}
 use Rattle.trace_code.specs.Encoding.{encode, end_mark, events_bytes, gap_bytes, header_bytes, mask_bytes, number_bytes, packet_bytes, HasEncoding}
+use Rattle.trace_code.proofs.trace_model_lemmas.EpochLemmas.{epochs-alone}
 use Rattle.trace_code.proofs.NumberLaws.{length-low}
 use Rattle.trace_code.proofs.Readings.{one_reading}
 use Rattle.trace_v2.specs.Old.{HasOldEncoding, IsOldTable, IsPlain, old_encode, old_header_bytes, old_packet_bytes}
-use Rattle.trace_v2.specs.Migration.{MigrationKeeps}
+use Rattle.trace_v2.specs.Migration.{MigrationKeeps, VersionsDiffer}
+use Rattle.trace_v2.specs.OldDecoding.{SplitsOld}
 use Rattle.trace_v2.proofs.OldReadings.{one_old_reading}
 
 pub is-table : (channels : List Channel) → IsOldTable channels → IsTable channels
@@ -27,6 +30,17 @@ is-table channels t = record {
 
 pub has-encoding : (t : Trace) → HasOldEncoding t → HasEncoding t
 has-encoding t h = record { table = is-table t.channels h.table; well_formed = h.well_formed; few = h.few }
+
+pub splits-encoded : (bytes : List ℕ) (t : Trace) (rest : List ℕ) → SplitsOld bytes t.channels t.packets rest → length t.packets < 2 ^ 32
+    → HasEncoding t
+splits-encoded bytes t rest s few = record {
+  table = is-table t.channels s.table;
+  well_formed = record {
+    packets = λ k d lt. (s.each k d lt).0;
+    alternate = epochs-alone t.packets (λ k d lt. (s.each k d lt).1.1) s.alternate;
+  };
+  few = few;
+}
 
 -- ---- lengths
 some-mask : (n mask : ℕ) → 1 ≤ n → 1 ≤ length (mask_bytes n mask)
@@ -75,3 +89,7 @@ migrated-short t h =
 
 pub migration-keeps : MigrationKeeps
 migration-keeps old new m t u was is = one_reading new u m.0 is m.2 ∙ one_old_reading old m.0 t m.1 was
+
+-- ---- the magics differ
+pub versions-differ : VersionsDiffer
+versions-differ channels rest = (refl, refl)

@@ -4,8 +4,8 @@
 --   a packet: 01 | start mask | end mask | contents of the starting channels
 --
 -- Channels, masks, contents and the end are spelled as they are today.
-use Rattle.std.specs.Prelude.{◌≡◌, ◌≢◌, ℕ, ◌<◌, ◌≤◌, ◌^◌, false, List, ◌∷◌, ◌++◌, length, codes, All, sum_by}
-use Rattle.std.specs.List.{AllPairs, flat_map}
+use Rattle.std.specs.Prelude.{◌≡◌, ◌≢◌, ℕ, ◌<◌, ◌≤◌, ◌^◌, Bool, false, List, ◌∷◌, ◌++◌, length, codes, All, nat_eq, sum_by}
+use Rattle.std.specs.List.{AllPairs, flat_map, starts_with}
 use Rattle.trace_code.specs.trace_model.declared.channel.Channel.{Channel}
 use Rattle.trace_code.specs.trace_model.declared.packet.Packet.{Packet}
 use Rattle.trace_code.specs.trace_model.declared.trace.Trace.{Trace}
@@ -17,6 +17,10 @@ use Rattle.trace_v2.specs.declared.header.TheConstants.{MOST_OLD_CHANNELS, MOST_
 
 abbrev pub old_magic : List ℕ
 old_magic = codes "VIDITRC1"
+
+-- the bytes begin as those of an old trace do
+abbrev pub begins_old : List ℕ → Bool
+begins_old bytes = starts_with nat_eq bytes old_magic
 
 abbrev pub old_header_bytes : List Channel → List ℕ
 old_header_bytes channels = table_bytes old_magic channels

@@ -3,6 +3,7 @@
 ghost use Rattle.std.specs.Prelude.{◌≡◌, ℕ, ◌⊎◌, List, ◌++◌, IfOk, IfErr, MatchResult};
 ghost use Rattle.trace_code.specs.declared.error.CodeError.{CodeError};
 ghost use Rattle.trace_code.specs.trace_model.declared.channel.Channel.{Channel};
+ghost use Rattle.trace_v2.specs.Old as old;
 ghost use Rattle.trace_v2.specs.Old.{IsOldTable, old_header_bytes};
 
 use std::alloc::Global;
@@ -17,6 +18,16 @@ pub const MOST_OLD_CHANNELS: usize = 32;
 
 /// The most bytes of the contents of a table's channels together in version 1 (this project's profile).
 pub const MOST_OLD_CONTENT_BYTES: usize = 1_024;
+
+/// The longest file of a trace of version 1, in bytes (this project's profile).
+pub const OLD_TRACE_LIMIT: u64 = 67_108_864;
+
+/// Whether the bytes begin as a trace of version 1 does.
+pub fn begins_old(bytes: &[u8]) -> bool
+    ensures { result ≡ old.begins_old bytes.now }
+{
+    bytes.starts_with(&OLD_MAGIC)
+}
 
 /// The header of version 1 at the front of the bytes, and the bytes after it. `BadTrace { at: 0 }` where no lawful one stands there.
 pub(crate) fn read_old_header(alloc: Global, bytes: &[u8]) -> Result<(Channels, &[u8]), CodeError>

@@ -1,6 +1,6 @@
 //! Laws of the definitions.
 
-ghost use Rattle.trace_v2.specs.Migration.{MigrationKeeps};
+ghost use Rattle.trace_v2.specs.Migration.{MigrationKeeps, VersionsDiffer};
 ghost use Rattle.trace_v2.specs.OldDecoding.{OneOldPlace, OneOldReading, OneOldSalvage};
 
 /// No bytes are the old encoding of two traces.
@@ -21,4 +21,9 @@ pub fn one_old_salvage()
 /// What is read of a migrated trace is what the old bytes encode.
 pub fn migration_keeps()
     ensures { MigrationKeeps }
+{}
+
+/// What begins with an old header begins as an old trace does, and what begins with one of today doesn't.
+pub fn versions_differ()
+    ensures { VersionsDiffer }
 {}

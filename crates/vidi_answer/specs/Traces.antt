@@ -1,18 +1,19 @@
 -- The traces that commands read, and what is said of two.
-use Rattle.std.specs.Prelude.{◌≡◌, ◌≢◌, ℕ, ◌⊎◌, List, [], take, slice_get}
-use Rattle.trace_code.specs.trace_model.declared.channel.Channel.{Channel}
-use Rattle.trace_code.specs.trace_model.declared.event.Kind.TheVariants.{Reset}
-use Rattle.trace_code.specs.trace_model.declared.packet.Packet.{Packet}
-use Rattle.trace_code.specs.trace_model.declared.trace.Trace.{Trace}
-use Rattle.trace_code.specs.trace_model.Counting.{IsNth}
-use Rattle.trace_code.specs.trace_model.Packet.{does}
-use Rattle.trace_code.specs.Decoding.{IsFaultAt}
-use Rattle.trace_code.specs.Encoding.{Encodes}
+use Rattle.std.specs.Prelude.{◌≡◌, ◌≢◌, ℕ, ◌⊎◌, true, false, List, [], take, slice_get}
+use Rattle.trace_v2.specs.trace_code.trace_model.declared.channel.Channel.{Channel}
+use Rattle.trace_v2.specs.trace_code.trace_model.declared.event.Kind.TheVariants.{Reset}
+use Rattle.trace_v2.specs.trace_code.trace_model.declared.packet.Packet.{Packet}
+use Rattle.trace_v2.specs.trace_code.trace_model.declared.trace.Trace.{Trace}
+use Rattle.trace_v2.specs.trace_code.trace_model.Counting.{IsNth}
+use Rattle.trace_v2.specs.trace_code.trace_model.Packet.{does}
+use Rattle.trace_v2.specs.trace_code.Decoding.{IsFaultAt}
+use Rattle.trace_v2.specs.trace_code.Encoding.{Encodes}
 use Rattle.report_text.specs.trace_compare.Findings.{findings}
 use Rattle.report_text.specs.declared.reason.Word.{Word}
-use Rattle.report_text.specs.declared.reason.Reason.TheVariants.{BadTrace, OtherChannels}
+use Rattle.report_text.specs.declared.reason.Reason.TheVariants.{BadTrace, OldTrace, OtherChannels}
 use Rattle.report_text.specs.declared.reason.Reason.TheVariants as reasons
-use Rattle.trace_code.specs.declared.decoding.TheConstants.{TRACE_LIMIT}
+use Rattle.trace_v2.specs.trace_code.declared.decoding.TheConstants.{TRACE_LIMIT}
+use Rattle.trace_v2.specs.Old.{begins_old}
 use Rattle.vidi_answer.specs.declared.status.Status.TheVariants.{Done, Diverged}
 use Rattle.vidi_answer.specs.Said.{diverged_text}
 use Rattle.vidi_answer.specs.Steps.{Ending, IsSaid, IsRefusal, Step}
@@ -21,10 +22,17 @@ use Rattle.vidi_answer.specs.Steps.{Ending, IsSaid, IsRefusal, Step}
 abbrev pub trace_limit : ℕ
 trace_limit = TRACE_LIMIT
 
--- the bytes encode no trace
+-- the bytes begin as those of an old trace do
+abbrev pub IsOldTrace : Word → List ℕ → Ending
+IsOldTrace word file status text = (begins_old file ≡ true) × IsRefusal word OldTrace status text
+
+-- they don't, and encode no trace
+abbrev pub IsBadTrace : Word → List ℕ → Ending
+IsBadTrace word file status text = (begins_old file ≡ false)
+    × (at : ℕ) × IsFaultAt file at × ((t : Trace) → ¬ Encodes t file) × IsRefusal word (BadTrace at) status text
+
 abbrev pub IsNoTrace : Word → List ℕ → Ending
-IsNoTrace word file status text =
-    (at : ℕ) × IsFaultAt file at × ((t : Trace) → ¬ Encodes t file) × IsRefusal word (BadTrace at) status text
+IsNoTrace word file status text = IsOldTrace word file status text ⊎ IsBadTrace word file status text
 
 -- the bytes of this word's file encode a trace, and this comes of it
 abbrev pub Decoding : Word → List ℕ → (Trace → Ending) → Ending

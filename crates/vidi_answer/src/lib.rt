@@ -13,5 +13,6 @@ pub use read::{TEXT_LIMIT, read_file};
 pub use report_text;
 pub use report_text::{trace_compare, vidi_io};
 pub use status::{Reason, Status, Word};
-pub use trace_code;
+pub use trace_v2;
+pub use trace_v2::trace_code;
 pub use traces::{diverged, diverged_text, trace_of, without_reset};

@@ -1,8 +1,8 @@
 //! Traces that are read, and what is said of the findings of two.
 
 ghost use Rattle.std.specs.Prelude.{◌≡◌, ◌<◌, ◌^◌, IfOk, IfErr, MatchOption, length};
-ghost use Rattle.trace_code.specs.Encoding.{Encodes};
-ghost use Rattle.trace_code.specs.NoReset.{HasNoReset};
+ghost use Rattle.trace_v2.specs.trace_code.Encoding.{Encodes};
+ghost use Rattle.trace_v2.specs.trace_code.NoReset.{HasNoReset};
 ghost use Rattle.vidi_answer.specs.AnswerText.{text_of};
 ghost use Rattle.vidi_answer.specs.Ended.{EndsWith};
 ghost use Rattle.vidi_answer.specs.Said as said;
@@ -15,14 +15,19 @@ use report_text::trace_compare::Report;
 use report_text::vidi_io::vidi_bits::{Bytes, Memory};
 use report_text::{put, report_lines};
 use std::alloc::Global;
-use trace_code::trace_model::{Channels, Packet, Trace};
-use trace_code::{CodeError, decode};
+use trace_v2::begins_old;
+use trace_v2::trace_code::trace_model::{Channels, Packet, Trace};
+use trace_v2::trace_code::{CodeError, decode};
 
-/// The trace of the bytes of this word's file.
+/// The trace of the bytes of this word's file, which is refused where they begin as those of an old trace do.
 pub fn trace_of(alloc: Global, word: Word, file: &[u8]) -> Result<Trace, Ended>
     ensures decoded { IfOk result (λ t. Encodes t file.now) }
     ensures refused { IfErr result (EndsWith (IsNoTrace word file.now)) }
 {
+    if begins_old(file) {
+        let answer = refused(alloc, word, Reason::OldTrace)?;
+        return Err(Ended::Refused(answer));
+    }
     match decode(alloc, file) {
         Ok(trace) => Ok(trace),
         Err(CodeError::BadTrace { at }) => {

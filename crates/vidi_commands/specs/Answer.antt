@@ -6,8 +6,11 @@ use Rattle.wrap_command.specs.vidi_io.Sink.{AppendsSome}
 use Rattle.wrap_command.specs.vidi_io.Writing.{IsKept}
 use Rattle.wrap_command.specs.vidi_bench.vidi_answer.declared.status.Status.{Status}
 use Rattle.wrap_command.specs.vidi_bench.vidi_answer.declared.status.Status.TheVariants.{Usage, ReadFault, WriteFault, Refused, Memory}
-use Rattle.vidi_commands.specs.Command.{Command, Dump, Check, Run, Record, Replay, Compare, Salvage, Wrap, Sample, IsGiven}
+use Rattle.vidi_commands.specs.Command.{Command, Dump, Check, Run, Record, Replay, Compare, Salvage, Migrate, Bursts, Move, Wrap, Sample, IsGiven}
 use Rattle.wrap_command.specs.vidi_bench.Steps.{IsSaid}
+use Rattle.trace_commands.specs.Bursts as grouping
+use Rattle.trace_commands.specs.Moves.{MovesEnd, StopsMoving}
+use Rattle.trace_commands.specs.Migrating.{Migrates, StopsMigrating}
 use Rattle.trace_commands.specs.Traces.{Dumps, Compares, Saves, StopsSaving}
 use Rattle.sample_command.specs.run_commands.Checks.{Checks}
 use Rattle.sample_command.specs.run_commands.Runs.{Runs}
@@ -31,6 +34,10 @@ Does (Replay design map trace cycles out) files ReadFailed Started status text l
 Does (Compare trace other) files ReadFailed Started status text left =
     Compares trace other files ReadFailed status text × IsKept files Started left
 Does (Salvage trace out) files ReadFailed Started status text left = Saves trace out files ReadFailed Started status text left
+Does (Migrate trace out) files ReadFailed Started status text left = Migrates trace out files ReadFailed Started status text left
+Does (Bursts trace axi) files ReadFailed Started status text left =
+    grouping.Bursts trace axi files ReadFailed status text × IsKept files Started left
+Does (Move trace wish out) files ReadFailed Started status text left = MovesEnd trace wish out files ReadFailed Started status text left
 Does (Wrap design map out) files ReadFailed Started status text left = Wraps design map out files ReadFailed Started status text left
 Does (Sample number) files ReadFailed Started status text left = Samples number status text × IsKept files Started left
 
@@ -46,6 +53,8 @@ Earns words files ReadFailed Started status text left =
 -- was started exactly once, and is a front of what the command defines.
 abbrev pub StopsIn : Command → Option Files → (Bool → Type 0) → Option Files → Type 0
 StopsIn (Salvage trace out) files Started left = StopsSaving trace out files Started left
+StopsIn (Migrate trace out) files Started left = StopsMigrating trace out files Started left
+StopsIn (Move trace wish out) files Started left = StopsMoving trace wish out files Started left
 StopsIn (Record design map script stalls trace) files Started left = StopsRecording design map script stalls trace files Started left
 StopsIn (Replay design map trace cycles out) files Started left = StopsReplaying design map trace cycles out files Started left
 StopsIn (Wrap design map out) files Started left = StopsWrapping design map out files Started left

@@ -1,10 +1,12 @@
 //! The words of a command line.
 
-ghost use Rattle.std.specs.Prelude.{ℕ, [], ◌∷◌, MatchOption, codes};
+ghost use Rattle.std.specs.Prelude.{◌≡◌, ◌≢◌, Bool, ℕ, [], ◌∷◌, MatchOption, codes};
+ghost use Rattle.trace_commands.specs.Moves.{wanted, Wanted};
 ghost use Rattle.vidi_commands.specs.Command as spec;
 
 use sample_command::sample_gen::LARGEST;
 use sample_command::trace_code::trace_model::MOST_CYCLES;
+use trace_commands::{Completion, Wish};
 use wrap_command::vidi_io::Words;
 use wrap_command::vidi_lines::number;
 
@@ -51,6 +53,22 @@ pub enum Command<'a> {
         trace: &'a str,
         out: &'a str,
     },
+    /// `out` gets today's bytes of the old trace.
+    Migrate {
+        trace: &'a str,
+        out: &'a str,
+    },
+    /// The transactions of `trace` are grouped into bursts, by what `axi` says of its channels.
+    Bursts {
+        trace: &'a str,
+        axi: &'a str,
+    },
+    /// `out` gets `trace` with a completion moved.
+    Move {
+        trace: &'a str,
+        wish: Wish<'a>,
+        out: &'a str,
+    },
     /// `out` gets the design with the shims of the map round it.
     Wrap {
         design: &'a str,
@@ -85,9 +103,92 @@ impl<'a> Command<'a> {
                 stalls.as_str(),
                 trace.as_str(),
             ),
+            [name, trace, channel, index, side, other, other_index, out] => {
+                let words = MoveWords {
+                    channel: channel.as_str(),
+                    index: index.as_str(),
+                    side: side.as_str(),
+                    other: other.as_str(),
+                    other_index: other_index.as_str(),
+                };
+                of_seven(name.as_str(), trace.as_str(), words, out.as_str())
+            }
             _ => None,
         }
     }
+}
+
+/// The words that say which completion is moved, and where.
+#[derive(Clone, Copy)]
+struct MoveWords<'a> {
+    channel: &'a str,
+    index: &'a str,
+    side: &'a str,
+    other: &'a str,
+    other_index: &'a str,
+}
+
+/// The command of this name with seven parts. The file that is written isn't the one that is read.
+fn of_seven<'a>(
+    name: &str,
+    trace: &'a str,
+    words: MoveWords<'a>,
+    out: &'a str,
+) -> Option<Command<'a>>
+    ensures { MatchOption result ((c : spec.Command) → ¬ spec.IsGiven (name.now ∷ trace.now ∷ words.entry.channel.now ∷ words.entry.index.now
+        ∷ words.entry.side.now ∷ words.entry.other.now ∷ words.entry.other_index.now ∷ out.now ∷ []) c)
+        (λ c. spec.IsGiven (name.now ∷ trace.now ∷ words.entry.channel.now ∷ words.entry.index.now
+        ∷ words.entry.side.now ∷ words.entry.other.now ∷ words.entry.other_index.now ∷ out.now ∷ []) (spec.plain c)) }
+{
+    if name != "move" || trace == out {
+        return None;
+    }
+    let wish = wish_of(words)?;
+    Some(Command::Move { trace, wish, out })
+}
+
+/// What these words wish.
+fn wish_of<'a>(words: MoveWords<'a>) -> Option<Wish<'a>>
+    ensures { MatchOption result ((w : Wanted) → ¬ spec.IsWanted words.entry.channel.now words.entry.index.now words.entry.side.now
+        words.entry.other.now words.entry.other_index.now w)
+        (λ wish. spec.IsWanted words.entry.channel.now words.entry.index.now words.entry.side.now words.entry.other.now
+        words.entry.other_index.now (wanted wish)) }
+{
+    let index = index_of(words.index)?;
+    let after = is_after(words.side)?;
+    let other_index = index_of(words.other_index)?;
+    Some(Wish {
+        end: Completion {
+            channel: words.channel,
+            index,
+        },
+        after,
+        other: Completion {
+            channel: words.other,
+            index: other_index,
+        },
+    })
+}
+
+/// The number of a completion that a word writes.
+fn index_of(word: &str) -> Option<u32>
+    ensures { MatchOption result ((n : ℕ) → ¬ spec.IsIndex word.now n) (λ n. spec.IsIndex word.now n) }
+{
+    let number = number(word.as_bytes())?;
+    u32::try_from(number).ok()
+}
+
+/// Whether a word says after or before.
+fn is_after(word: &str) -> Option<bool>
+    ensures { MatchOption result ((after : Bool) → word.now ≢ spec.side_word after) (λ after. word.now ≡ spec.side_word after) }
+{
+    if word == "after" {
+        return Some(true);
+    }
+    if word == "before" {
+        return Some(false);
+    }
+    None
 }
 
 /// The command of this name with one part.
@@ -247,6 +348,18 @@ fn of_two<'a>(name: &str, first: &'a str, second: &'a str) -> Option<Command<'a>
     }
     if name == "salvage" && first != second {
         return Some(Command::Salvage {
+            trace: first,
+            out: second,
+        });
+    }
+    if name == "bursts" {
+        return Some(Command::Bursts {
+            trace: first,
+            axi: second,
+        });
+    }
+    if name == "migrate" && first != second {
+        return Some(Command::Migrate {
             trace: first,
             out: second,
         });

@@ -15,7 +15,7 @@ use sample_command::replay_command::replay;
 use sample_command::run_commands::{check, record, run};
 use sample_command::sample;
 use std::alloc::Global;
-use trace_commands::{compare, dump, salvage};
+use trace_commands::{bursts, compare, dump, migrate, move_completion, salvage};
 use wrap_command::vidi_bench::{Answer, Ended, Status, usage};
 use wrap_command::vidi_io::{Failed, Shelf, Sink, Words};
 use wrap_command::wrap;
@@ -30,6 +30,10 @@ use wrap_command::wrap;
 ///   extra, different or early in it, or what a replay that is short holds back and waits for.
 /// - `compare TRACE OTHER` prints what is missing, extra, different or early in the second trace.
 /// - `salvage TRACE OUT` writes what is whole of a trace that was cut off.
+/// - `migrate TRACE OUT` writes an old trace, one of version 1, in the bytes of today.
+/// - `bursts TRACE AXI` groups the transactions of a trace into the bursts of AMBA AXI4, by a file that says which channels are whose.
+/// - `move TRACE CH J before CH K OUT`, and the same with `after`, writes a trace with the J-th completion of one channel next to the K-th
+///   of another.
 /// - `wrap DESIGN MAP OUT` writes a design with the monitors and replayers of the map's channels round it, as Verilog.
 /// - `sample NUMBER` makes a design and its files from a number, records and replays them in memory, and prints what is missing, extra,
 ///   different or early in the replay.
@@ -113,6 +117,9 @@ fn answer_to<S: Shelf>(alloc: Global, words: &Words, shelf: &mut S) -> Result<An
         ) => replay(alloc, design, map, trace, cycles, out, shelf),
         Some(Command::Compare { trace, other }) => compare(alloc, trace, other, shelf),
         Some(Command::Salvage { trace, out }) => salvage(alloc, trace, out, shelf),
+        Some(Command::Migrate { trace, out }) => migrate(alloc, trace, out, shelf),
+        Some(Command::Bursts { trace, axi }) => bursts(alloc, trace, axi, shelf),
+        Some(Command::Move { trace, wish, out }) => move_completion(alloc, trace, wish, out, shelf),
         Some(Command::Wrap { design, map, out }) => wrap(alloc, design, map, out, shelf),
         Some(Command::Sample { number }) => sample(alloc, number),
         None => Ok(usage(alloc)?),

@@ -1,7 +1,8 @@
 -- What `salvage` keeps of a recording that broke off.
-use Rattle.std.proofs.Common.{◌≡◌, ◌≤◌, ◌+◌, ℕ, zero, suc, Bool, List, [], ◌∷◌, ◌++◌, Option, Some, Result, Err, length, take, inl, inr, refl, sym, ap, subst, ◌∙◌, arith, ⊎_elim}
+use Rattle.std.proofs.Common.{◌≡◌, ◌≤◌, ◌+◌, ◌-◌, false, ℕ, zero, suc, Bool, List, [], ◌∷◌, ◌++◌, Option, Some, Result, Err, length, take, inl, inr, refl, sym, ap, subst, ◌∙◌, arith, ⊎_elim}
 use Rattle.std.specs.FinMap.{get}
 use Rattle.std.specs.List.{flat_map}
+use Rattle.std.proofs.Math.Seq.{take-append-add}
 use Rattle.std.proofs.lemmas.List.{length-take, length-take-le, length-append, take_at}
 use Rattle.std.proofs.lemmas.List.Elements.{All-take}
 use Rattle.vidi_commands.specs.trace_model.declared.packet.Packet.{Packet}
@@ -15,17 +16,19 @@ use Rattle.vidi_commands.specs.trace_code.Decoding.{HasNoHeader}
 use Rattle.vidi_commands.proofs.trace_code_lemmas.NoReset.{no-reset_front}
 use Rattle.vidi_commands.specs.trace_code.Encoding.{HasEncoding, encode, end_mark, header_bytes, packet_bytes}
 use Rattle.vidi_commands.specs.trace_code.Salvage.{front, FrontIsSalvaged, LieWhole, Salvages}
+use Rattle.vidi_commands.specs.trace_v2.Old.{begins_old}
 use Rattle.vidi_commands.specs.vidi_io.Shelf.{Files, HasStarted, holding}
 use Rattle.vidi_commands.specs.report_text.declared.reason.Word.TheVariants as words
 use Rattle.vidi_commands.specs.vidi_bench.vidi_answer.declared.status.Status.{Status}
 use Rattle.vidi_commands.specs.vidi_bench.Reading.{IsRead}
 use Rattle.vidi_commands.specs.Said.{salvaged_line}
 use Rattle.vidi_commands.specs.run_commands.Records.{course_of}
-use Rattle.vidi_commands.specs.trace_commands.Traces.{trace_limit, IsHeaderless, Saves}
+use Rattle.vidi_commands.specs.trace_commands.Traces.{trace_limit, IsHeaderless, IsWholeIn, Saves}
 use Rattle.vidi_laws.specs.Headline.{BrokenRecordingIsSalvaged, IsBrokenOff, KeepsWhole, SalvagedTraceIsReplayable}
 use Rattle.vidi_laws.proofs.Headline.{read-there, recorded-no_reset, recorded-short, replayable-there, run-kept}
 use Rattle.vidi_laws.proofs.OneEnding.{one-read, reading-apart}
 use Rattle.vidi_laws.proofs.OneSalvaged.{found, wanting, no_memory, same_found}
+use Rattle.vidi_laws.proofs.OneTraces.{old-or-new}
 
 abbrev headerless : Result Trace CodeError
 headerless = Err (errors.BadTrace 0)
@@ -61,11 +64,30 @@ module _ (law : FrontIsSalvaged) (t : Trace) (bytes : List ℕ) (encodes : HasEn
       (λ (r : (k : ℕ) × LieWhole t (length bytes) k × (found u ≡ found (front k t))). (r.0, r.1, same_found u (front r.0 t) r.2))
       (law t (length bytes) (found u) encodes broken.0 (subst (λ (b : List ℕ). Salvages b (found u)) (sym front_is) whole))
 
+  -- which don't begin as an old trace's
+  is-new : begins_old bytes ≡ false
+  is-new =
+      let header = header_bytes t.channels in
+      let body = flat_map (packet_bytes t.channels) t.packets ++ end_mark (length t.packets) in
+      let n = length bytes - length header in
+      let long : length bytes ≡ length header + n = omega (arith, broken.0) in
+      let parts : bytes ≡ header ++ take n body =
+      sym front_is ∙ ap (λ (k : ℕ). take k (header ++ body)) long ∙ take-append-add header body n in
+      subst (λ (b : List ℕ). begins_old b ≡ false) (sym parts) refl
+
   has-header : HasNoHeader bytes → ⊥
   has-header none = ⊎_elim
       headerless-wanting
       (λ (r : (k : ℕ) × LieWhole t (length bytes) k × (headerless ≡ found (front k t))). headerless-found (front r.0 t) r.2)
       (law t (length bytes) headerless encodes broken.0 (subst (λ (b : List ℕ). Salvages b headerless) (sym front_is) (none, refl)))
+
+  lacks-no_header : (status : Status) (text : List ℕ) → IsHeaderless bytes status text → ⊥
+  lacks-no_header status text (inl (old, lacks)) = old-or-new bytes old is-new
+  lacks-no_header status text (inr (new, (none, s))) = has-header none
+
+  whole-salvaged : (u : Trace) → IsWholeIn bytes u → Salvages bytes (found u)
+  whole-salvaged u (inl (old, whole)) = absurd (old-or-new bytes old is-new)
+  whole-salvaged u (inr (new, whole)) = whole
 
   fits : length (encode t) ≤ trace_limit → length bytes ≤ trace_limit
   fits small =
@@ -83,10 +105,10 @@ module _ (law : FrontIsSalvaged) (t : Trace) (bytes : List ℕ) (encodes : HasEn
       go : IsRead trace_limit trace (Some now) bytes → Saves trace out (Some now) (λ _. ⊥) P status text left
           → KeepsWhole t bytes out now status text left
       go read (inl (unsaved, same)) = absurd (reading-apart trace_limit words.Trace trace now IsHeaderless bytes read status text
-          (λ none. has-header none.0) unsaved)
+          (lacks-no_header status text) unsaved)
       go read (inr (u, (file, read', whole), said, (same, _))) =
           let file_is : file ≡ bytes = one-read trace_limit trace now file bytes read' read in
-          let (k, lie, e) = kept u (subst (λ (b : List ℕ). Salvages b (found u)) file_is whole) in
+          let (k, lie, e) = kept u (whole-salvaged u (subst (λ (b : List ℕ). IsWholeIn b u) file_is whole)) in
           record {
             count = k;
             whole = lie;

@@ -1,18 +1,28 @@
 -- The laws of a script's run, said of the four files.
-use Rattle.std.proofs.Common.{◌≡◌, ◌≤◌, ℕ, List, Option, Some, length, slice_get, refl, sym, subst, arith}
+use Rattle.std.proofs.Common.{◌≡◌, ◌≤◌, ℕ, true, List, [], ◌∷◌, ◌++◌, Option, None, Some, length, take, slice_get, refl, sym, subst, arith}
 use Rattle.std.specs.Prelude.{false, IsSomeAnd}
+use Rattle.std.proofs.lemmas.List.Elements.{All-nil}
 use Rattle.std.specs.FinMap.{get}
 use Rattle.vidi_commands.specs.vidi_io.Shelf.{Files}
 use Rattle.vidi_commands.specs.trace_model.declared.row.Row.{Row}
+use Rattle.vidi_commands.specs.trace_model.declared.row.Offers.{Offers}
 use Rattle.vidi_commands.specs.trace_model.Recording.{trace_of}
+use Rattle.net_design.specs.declared.design.Design.{Design}
+use Rattle.vidi_commands.specs.chan_map.declared.pins.Map.{Map}
+use Rattle.vidi_commands.specs.run_model.Played.{AreStable}
+use Rattle.vidi_commands.specs.run_model.Run.{AllUp, IsTheRun}
+use Rattle.vidi_commands.specs.run_model.Stretches.{AreTheRun}
 use Rattle.vidi_commands.specs.trace_model.declared.trace.Trace.{Trace}
 use Rattle.vidi_commands.specs.trace_code.Encoding.{encode, HasEncoding}
 use Rattle.vidi_commands.specs.trace_code.NoReset.{HasNoReset}
 use Rattle.vidi_commands.proofs.trace_code_lemmas.NoReset.{rows-no_reset}
 use Rattle.vidi_commands.specs.trace_model.declared.packet.TheConstants.{MOST_CYCLES}
+use Rattle.vidi_commands.specs.env_script.Offered.{offers_after}
+use Rattle.vidi_commands.specs.env_script.Resets.{is_due_behind}
 use Rattle.vidi_commands.specs.env_script.ScriptOffer.{script_offer}
 use Rattle.vidi_commands.specs.env_script.declared.stalls.Stalls.{Stalls}
 use Rattle.vidi_commands.proofs.env_script_lemmas.Lasting.{script-lasts}
+use Rattle.vidi_commands.specs.bench_run.Plain.{spot_behind, IsPlainRun}
 use Rattle.vidi_commands.proofs.bench_run_lemmas.PlainLaws.{plain-keeps, plain-of}
 use Rattle.vidi_commands.specs.vidi_recorder.Course.{Course, IsTheRunOf}
 use Rattle.vidi_commands.proofs.vidi_recorder_lemmas.Kept.{drained-plain, no-hidden_gate}
@@ -31,10 +41,35 @@ pub run-kept : RecordedRunIsKept
 run-kept design m script stalls files b plan planned rows stop run =
     script-kept b.device.design b.device.map b.script plan rows stop planned.bench.device.bound.1.table planned.bench.plays.2 run
 
+-- where no time of a reset is, a run is one stretch
+never-due : (rows : List Row) → is_due_behind [] rows ≡ true → ⊥
+never-due rows due = cc
+
+one-stretch : (d : Design) (m : Map) (offers : List Row → Offers) (n : ℕ) (rows : List Row) (stop : Option ℕ)
+    → IsTheRun d m offers (AllUp m.channels) n rows stop
+    → AreTheRun d m offers (λ past. AllUp m.channels) (is_due_behind []) n [] rows stop
+one-stretch d m offers n rows None (run, stable, l) =
+    ((run, λ k some less due. never-due (take k rows) due), All-nil (AreStable m.channels), stable, l)
+one-stretch d m offers n rows (Some c) (stops, l) = (
+  record {
+    next = stops.next;
+    played = (stops.played, λ k some less due. never-due (take k (rows ++ stops.next ∷ [])) due);
+    before = All-nil (AreStable m.channels);
+    stable = stops.stable;
+    unstable = stops.unstable;
+  },
+  l,
+)
+
 pub drained-run : DrainedRecordingIsTheRun
 drained-run design map script stalls files b plan planned rows stop run drains =
-    plain-of b.device.design b.device.map (script_offer b.script) b.script.cycles rows stop
-    (drained-plain (course_of b plan) rows stop planned.holds drains run)
+    let d = b.device.design in
+    let offer = script_offer b.script in
+    let plain = plain-of d b.device.map offer [] b.script.cycles [] rows stop
+    (one-stretch d b.device.map (offers_after b.device.map.channels offer) b.script.cycles rows stop
+    (drained-plain (course_of b plan) rows stop planned.holds drains run)) in
+    subst (λ (times : List ℕ). IsPlainRun d b.device.map offer times b.script.cycles
+    (record { rows = rows; unstable = spot_behind rows stop })) (sym planned.no_resets) plain
 
 pub wide-drains : WidePlanDrains
 wide-drains design map script stalls files b plan planned all rows =
@@ -98,5 +133,5 @@ recorded-replayable design map script stalls files b plan planned rows stop run 
 
 pub printed-keeps : PrintedRunKeepsContents
 printed-keeps design map script b is run played =
-    plain-keeps b.device.design b.device.map (script_offer b.script) (script-lasts b.device.map.channels b.script is.plays.2)
-    b.script.cycles run played
+    plain-keeps b.device.design b.device.map (script_offer b.script) b.script.resets
+    (script-lasts b.device.map.channels b.script is.plays.2) b.script.cycles run played

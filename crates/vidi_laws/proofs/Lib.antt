@@ -6,7 +6,11 @@ pub mod OneCompare
 pub mod OneCommand
 pub mod OneRefusal
 pub mod OneCheck
+pub mod OneWritten
 pub mod OneSalvaged
+pub mod OneMigrated
+pub mod OneBursts
+pub mod OneMoved
 pub mod AlikeLists
 pub mod AlikeNarrow
 pub mod AlikeParts
@@ -19,6 +23,7 @@ pub mod SameReplay
 pub mod OneAnswer
 pub mod Headline
 pub mod Broken
+pub mod Migrating
 pub mod OneRun
 pub mod Gaps
 pub mod KeptOrder

@@ -2,15 +2,20 @@
 use Rattle.std.proofs.Common.{◌≡◌, ℕ, Bool, List, Option, Some, inl, inr, sym, subst, ◌∙◌}
 use Rattle.vidi_commands.specs.trace_code.Decoding.{OnePlace, OneReading}
 use Rattle.vidi_commands.specs.trace_code.Salvage.{OneSalvage}
+use Rattle.vidi_commands.specs.trace_commands.trace_edit.Laws.{OneMove}
+use Rattle.vidi_commands.specs.trace_v2.OldDecoding.{OneOldPlace, OneOldReading, OneOldSalvage}
 use Rattle.vidi_commands.specs.vidi_io.Shelf.{Files, HasStarted}
 use Rattle.vidi_commands.specs.vidi_bench.vidi_answer.declared.status.Status.{Status}
-use Rattle.vidi_commands.specs.Command.{Command, Dump, Check, Run, Record, Replay, Compare, Salvage, Wrap, Sample}
+use Rattle.vidi_commands.specs.Command.{Command, Dump, Check, Run, Record, Replay, Compare, Salvage, Migrate, Bursts, Move, Wrap, Sample}
 use Rattle.vidi_commands.specs.Answer.{Does}
 use Rattle.vidi_laws.specs.OneAnswer.{OneAnswer}
 use Rattle.vidi_laws.proofs.OneCommand.{one_command}
 use Rattle.vidi_laws.proofs.OneDump.{one_dump}
 use Rattle.vidi_laws.proofs.OneCompare.{one_compare}
 use Rattle.vidi_laws.proofs.OneCheck.{Alike, one_check}
+use Rattle.vidi_laws.proofs.OneBursts.{one_bursts}
+use Rattle.vidi_laws.proofs.OneMigrated.{one_migrated}
+use Rattle.vidi_laws.proofs.OneMoved.{one_moved}
 use Rattle.vidi_laws.proofs.OneSalvaged.{one_salvaged}
 use Rattle.vidi_laws.proofs.SameBench.{BenchLaws}
 use Rattle.vidi_laws.proofs.SameRun.{one_run}
@@ -37,6 +42,10 @@ pub record Laws : Type 0 where
   pub reading : OneReading
   pub place : OnePlace
   pub salvage : OneSalvage
+  pub old_reading : OneOldReading
+  pub old_place : OneOldPlace
+  pub old_salvage : OneOldSalvage
+  pub move : OneMove
   pub benches : BenchLaws
   pub replays : ReplayLaws
 
@@ -55,7 +64,13 @@ one_deed laws (Check design top) files P Q a b x y left right (d, (l, _)) (e, (r
 one_deed laws (Compare trace other) files P Q a b x y left right (d, (l, _)) (e, (r, _)) =
     kept files a b x y left right (inr (one_compare laws.reading laws.place trace other files a b x y d e)) l r
 one_deed laws (Salvage trace out) files P Q a b x y left right d e =
-    all-same a b x y left right (one_salvaged laws.salvage trace out files P Q a b x y left right d e)
+    all-same a b x y left right (one_salvaged laws.salvage laws.old_salvage trace out files P Q a b x y left right d e)
+one_deed laws (Migrate trace out) files P Q a b x y left right d e =
+    all-same a b x y left right (one_migrated laws.old_reading laws.old_place trace out files P Q a b x y left right d e)
+one_deed laws (Bursts trace axi) files P Q a b x y left right (d, (l, _)) (e, (r, _)) =
+    kept files a b x y left right (inr (one_bursts laws.reading laws.place trace axi files a b x y d e)) l r
+one_deed laws (Move trace wish out) files P Q a b x y left right d e =
+    all-same a b x y left right (one_moved laws.reading laws.place laws.move trace wish out files P Q a b x y left right d e)
 one_deed laws (Wrap design map out) files P Q a b x y left right d e =
     one_wrap laws.benches.devices design map out files P Q a b x y left right d e
 one_deed laws (Sample number) files P Q a b x y left right (d, (l, _)) (e, (r, _)) =

@@ -1,28 +1,34 @@
 -- `salvage`: one answer with one set of files.
-use Rattle.std.proofs.Common.{◌≡◌, ◌⊎◌, ℕ, Bool, List, ◌++◌, Option, Some, Result, Ok, Err, length, inl, inr, ⊎_elim, sym, ap, subst, ◌∙◌}
+use Rattle.std.proofs.Common.{◌≡◌, ◌⊎◌, ℕ, Bool, List, ◌++◌, Option, Some, Result, Ok, Err, inl, inr, subst}
 use Rattle.std.specs.List.{flat_map}
 use Rattle.vidi_commands.specs.trace_model.declared.trace.Trace.{Trace}
 use Rattle.vidi_commands.specs.trace_code.declared.error.CodeError.{CodeError}
 use Rattle.vidi_commands.specs.trace_code.declared.error.CodeError.TheVariants as errors
-use Rattle.vidi_commands.specs.trace_code.Encoding.{packet_bytes, encode}
+use Rattle.vidi_commands.specs.trace_code.Encoding.{packet_bytes}
 use Rattle.vidi_commands.specs.trace_code.Decoding.{HasNoHeader}
 use Rattle.vidi_commands.specs.trace_code.Salvage.{Salvages, OneSalvage}
-use Rattle.vidi_commands.specs.vidi_io.Shelf.{Files, holding}
+use Rattle.vidi_commands.specs.trace_v2.Old.{old_packet_bytes}
+use Rattle.vidi_commands.specs.trace_v2.OldDecoding.{HasNoOldHeader, SalvagesOld, OneOldSalvage}
+use Rattle.vidi_commands.specs.vidi_io.Shelf.{Files}
 use Rattle.vidi_commands.specs.report_text.declared.reason.Word.TheVariants as words
 use Rattle.vidi_commands.specs.report_text.declared.reason.Reason.TheVariants.{BadTrace}
 use Rattle.vidi_commands.specs.vidi_bench.vidi_answer.declared.status.Status.{Status}
 use Rattle.vidi_commands.specs.vidi_bench.vidi_answer.declared.status.Status.TheVariants.{Refused}
 use Rattle.vidi_commands.specs.report_text.Reason.{reason_line}
+use Rattle.vidi_commands.specs.vidi_bench.Steps.{IsRefusal}
 use Rattle.vidi_commands.specs.Said.{salvaged_line}
-use Rattle.vidi_commands.specs.trace_commands.Traces.{trace_limit, IsUnsaved, IsWhole, Saves}
-use Rattle.vidi_laws.proofs.OneEnding.{One, one-said, one-unread, unread-read, one-read}
+use Rattle.vidi_commands.specs.trace_commands.Traces.{trace_limit, IsHeaderless, IsUnsaved, IsWhole, IsWholeIn, Saves}
+use Rattle.vidi_laws.proofs.OneEnding.{Apart, One, one-said, one-reading, unread-read, one-read}
+use Rattle.vidi_laws.proofs.OneTraces.{old-or-new}
+use Rattle.vidi_laws.proofs.OneWritten.{one_written}
 
-one-unsaved : (trace : List ℕ) (files : Files) → One (IsUnsaved trace (Some files) (λ _. ⊥))
-one-unsaved trace files a b x y (inl u) (inl v) = one-unread trace_limit words.Trace trace files a b x y u v
-one-unsaved trace files a b x y (inl u) (inr (f, read, headerless)) = absurd (unread-read trace_limit words.Trace trace files a x f u read)
-one-unsaved trace files a b x y (inr (f, read, headerless)) (inl u) = absurd (unread-read trace_limit words.Trace trace files b y f u read)
-one-unsaved trace files a b x y (inr (f, read, (none, s))) (inr (g, read', (none', s'))) =
-    one-said (Refused words.Trace (BadTrace 0)) (reason_line words.Trace (BadTrace 0)) a b x y s s'
+refused-headerless : (file : List ℕ) (a : Status) (x : List ℕ) → IsHeaderless file a x → IsRefusal words.Trace (BadTrace 0) a x
+refused-headerless file a x (inl (old, (none, s))) = s
+refused-headerless file a x (inr (new, (none, s))) = s
+
+one-headerless : (file : List ℕ) → One (IsHeaderless file)
+one-headerless file a b x y u v = one-said (Refused words.Trace (BadTrace 0)) (reason_line words.Trace (BadTrace 0)) a b x y
+    (refused-headerless file a x u) (refused-headerless file b y v)
 
 abbrev pub found : Trace → Result Trace CodeError
 found t = Ok t
@@ -36,39 +42,45 @@ same_found t u e = cc
 pub no_memory : (t : Trace) → found t ≡ wanting → ⊥
 no_memory t e = cc
 
+-- two that were found are one, unless memory was wanting
+one-found : (t u : Trace) → (found t ≡ wanting) ⊎ (found u ≡ wanting) ⊎ (found t ≡ found u) → t ≡ u
+one-found t u (inl e) = absurd (no_memory t e)
+one-found t u (inr (inl e)) = absurd (no_memory u e)
+one-found t u (inr (inr e)) = same_found t u e
+
 no_header : (file : List ℕ) (t : Trace) → Salvages file (Ok t) → HasNoHeader file → ⊥
 no_header file t (rest, longest) none =
     none t.channels (flat_map (packet_bytes t.channels) t.packets ++ rest) longest.splits.table longest.splits.parts
 
-one-whole : OneSalvage → (trace : List ℕ) (files : Files) (t u : Trace) → IsWhole trace (Some files) t → IsWhole trace (Some files) u
-    → t ≡ u
-one-whole one trace files t u (f, read, whole) (g, read', whole') =
-    let same = one-read trace_limit trace files g f read' read in
-    let there = subst (λ (h : List ℕ). Salvages h (found u)) same whole' in
-    ⊎_elim (λ (e : found t ≡ wanting). absurd (no_memory t e))
-    (λ (r : (found u ≡ wanting) ⊎ (found t ≡ found u)). ⊎_elim
-    (λ (e : found u ≡ wanting). absurd (no_memory u e))
-    (λ (e : found t ≡ found u). same_found t u e) r)
-    (one f (found t) (found u) whole there)
+no_old_header : (file : List ℕ) (t : Trace) → SalvagesOld file (Ok t) → HasNoOldHeader file → ⊥
+no_old_header file t (rest, longest) none =
+    none t.channels (flat_map (old_packet_bytes t.channels) t.packets ++ rest) longest.splits.table longest.splits.parts
 
-unsaved-whole : OneSalvage → (trace : List ℕ) (files : Files) (a : Status) (x : List ℕ) (t : Trace)
-    → IsUnsaved trace (Some files) (λ _. ⊥) a x → IsWhole trace (Some files) t → ⊥
-unsaved-whole one trace files a x t (inl u) (f, read, whole) = unread-read trace_limit words.Trace trace files a x f u read
-unsaved-whole one trace files a x t (inr (g, read', (none, s))) (f, read, whole) =
-    no_header f t whole (subst HasNoHeader (one-read trace_limit trace files g f read' read) none)
+pub headerless-whole : (file : List ℕ) → Apart (IsHeaderless file) (IsWholeIn file)
+headerless-whole file a x t (inl (old, (none, s))) (inl (old', whole)) = no_old_header file t whole none
+headerless-whole file a x t (inl (old, lacks)) (inr (new, whole)) = old-or-new file old new
+headerless-whole file a x t (inr (new, lacks)) (inl (old, whole)) = old-or-new file old new
+headerless-whole file a x t (inr (new, (none, s))) (inr (new', whole)) = no_header file t whole none
 
-pub one_salvaged : OneSalvage → (trace out : List ℕ) (files : Files) (P Q : Bool → Type 0) (a b : Status) (x y : List ℕ)
-    (left right : Option Files) → Saves trace out (Some files) (λ _. ⊥) P a x left → Saves trace out (Some files) (λ _. ⊥) Q b y right
-    → (a ≡ b) × (x ≡ y) × (left ≡ right)
-one_salvaged one trace out files P Q a b x y left right (inl (u, (same, _))) (inl (v, (same', _))) =
-    let e = one-unsaved trace files a b x y u v in (e.0, e.1, same ∙ sym same')
-one_salvaged one trace out files P Q a b x y left right (inl (u, same)) (inr (t, whole, s, same')) =
-    absurd (unsaved-whole one trace files a x t u whole)
-one_salvaged one trace out files P Q a b x y left right (inr (t, whole, s, same)) (inl (u, same')) =
-    absurd (unsaved-whole one trace files b y t u whole)
-one_salvaged one trace out files P Q a b x y left right (inr (t, whole, s, (same, _))) (inr (u, whole', s', (same', _))) =
-    let e = one-whole one trace files t u whole whole' in (
-      s.0 ∙ sym s'.0,
-      s.1 ∙ ap (λ (v : Trace). salvaged_line (length v.packets)) e ∙ sym s'.1,
-      same ∙ ap (λ (v : Trace). holding (Some files) out (encode v)) e ∙ sym same',
-    )
+module _ (one : OneSalvage) (one_old : OneOldSalvage) where
+  one-whole_in : (file : List ℕ) (t u : Trace) → IsWholeIn file t → IsWholeIn file u → t ≡ u
+  one-whole_in file t u (inl (old, whole)) (inl (old', whole')) = one-found t u (one_old file (found t) (found u) whole whole')
+  one-whole_in file t u (inl (old, whole)) (inr (new, whole')) = absurd (old-or-new file old new)
+  one-whole_in file t u (inr (new, whole)) (inl (old, whole')) = absurd (old-or-new file old new)
+  one-whole_in file t u (inr (new, whole)) (inr (new', whole')) = one-found t u (one file (found t) (found u) whole whole')
+
+  one-whole : (trace : List ℕ) (files : Files) (t u : Trace) → IsWhole trace (Some files) t → IsWhole trace (Some files) u → t ≡ u
+  one-whole trace files t u (f, read, whole) (g, read', whole') =
+      let same = one-read trace_limit trace files g f read' read in
+      one-whole_in f t u whole (subst (λ (h : List ℕ). IsWholeIn h u) same whole')
+
+  unsaved-whole : (trace : List ℕ) (files : Files) → Apart (IsUnsaved trace (Some files) (λ _. ⊥)) (IsWhole trace (Some files))
+  unsaved-whole trace files a x t (inl u) (f, read, whole) = unread-read trace_limit words.Trace trace files a x f u read
+  unsaved-whole trace files a x t (inr (g, read', lacks)) (f, read, whole) =
+      headerless-whole f a x t (subst (λ (h : List ℕ). IsHeaderless h a x) (one-read trace_limit trace files g f read' read) lacks) whole
+
+  pub one_salvaged : (trace out : List ℕ) (files : Files) (P Q : Bool → Type 0) (a b : Status) (x y : List ℕ)
+      (left right : Option Files) → Saves trace out (Some files) (λ _. ⊥) P a x left → Saves trace out (Some files) (λ _. ⊥) Q b y right
+      → (a ≡ b) × (x ≡ y) × (left ≡ right)
+  one_salvaged trace out files = one_written (IsUnsaved trace (Some files) (λ _. ⊥)) (IsWhole trace (Some files)) salvaged_line out files
+      (one-reading trace_limit words.Trace trace files IsHeaderless one-headerless) (one-whole trace files) (unsaved-whole trace files)

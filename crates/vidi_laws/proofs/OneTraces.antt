@@ -1,5 +1,5 @@
 -- Traces that are read, and compared: one answer.
-use Rattle.std.proofs.Common.{◌≡◌, ◌≢◌, ◌⊎◌, ℕ, ◌<◌, List, take, slice_get, inl, inr, ⊎_elim, sym, ap, subst, ◌∙◌, arith}
+use Rattle.std.proofs.Common.{◌≡◌, ◌≢◌, ◌⊎◌, ℕ, ◌<◌, true, false, List, take, slice_get, inl, inr, ⊎_elim, refl, sym, ap, subst, ◌∙◌, arith}
 use Rattle.std.proofs.lemmas.Bool.{cases_order}
 use Rattle.vidi_commands.specs.trace_model.declared.channel.Channel.{Channel}
 use Rattle.vidi_commands.specs.trace_model.declared.event.Kind.TheVariants.{Reset}
@@ -11,16 +11,17 @@ use Rattle.vidi_commands.proofs.trace_model_lemmas.CountingLemmas.{nth-below, nt
 use Rattle.vidi_commands.specs.trace_code.Encoding.{Encodes}
 use Rattle.vidi_commands.specs.trace_code.Decoding.{OnePlace, OneReading}
 use Rattle.vidi_commands.specs.trace_code.NoReset.{HasNoReset}
+use Rattle.vidi_commands.specs.trace_v2.Old.{begins_old}
 use Rattle.vidi_commands.specs.trace_compare.Findings.{findings}
 use Rattle.vidi_commands.specs.report_text.declared.reason.Word.{Word}
-use Rattle.vidi_commands.specs.report_text.declared.reason.Reason.TheVariants.{BadTrace, OtherChannels}
+use Rattle.vidi_commands.specs.report_text.declared.reason.Reason.TheVariants.{BadTrace, OldTrace, OtherChannels}
 use Rattle.vidi_commands.specs.report_text.declared.reason.Reason.TheVariants as reasons
 use Rattle.vidi_commands.specs.vidi_bench.vidi_answer.declared.status.Status.TheVariants.{Done, Refused, Diverged}
 use Rattle.vidi_commands.specs.report_text.Reason.{reason_line}
 use Rattle.vidi_commands.specs.Said.{diverged_text}
 use Rattle.vidi_commands.specs.vidi_bench.Steps.{Ending, IsRefusal}
 use Rattle.vidi_commands.specs.vidi_bench.Traces.{IsNoTrace, Decoding, HasOtherChannels, HasReset, IsFirstReset, IsVerdict}
-use Rattle.vidi_laws.proofs.OneEnding.{Same, One, one-said, one-step-by}
+use Rattle.vidi_laws.proofs.OneEnding.{Same, One, Apart, one-said, one-step-by}
 
 -- two tables have one first difference
 no-lower : (t u : List Channel) (m n : ℕ) → m < n → slice_get t m ≢ slice_get u m → take n t ≡ take n u → ⊥
@@ -58,12 +59,28 @@ one-verdict line t u a b x y (inr (some, s)) (inl (none, s')) = absurd (some non
 one-verdict line t u a b x y (inr (some, s)) (inr (some', s')) =
     one-said Diverged (diverged_text (findings t u) t.channels) a b x y s s'
 
+-- no bytes begin as both versions do
+pub old-or-new : (file : List ℕ) → begins_old file ≡ true → begins_old file ≡ false → ⊥
+old-or-new file old new = let e : true ≡ false = sym old ∙ new in cc
+
+-- those of a trace of today don't begin as an old one's
+trace-new : (t : Trace) (file : List ℕ) → Encodes t file → begins_old file ≡ false
+trace-new t file code = subst (λ (b : List ℕ). begins_old b ≡ false) code.1 refl
+
+pub no_trace-apart : (word : Word) (file : List ℕ) → Apart (IsNoTrace word file) (λ (t : Trace). Encodes t file)
+no_trace-apart word file a x t (inl (old, s)) code = old-or-new file old (trace-new t file code)
+no_trace-apart word file a x t (inr (new, at, fault, none, s)) code = none t code
+
 one-no_trace : OnePlace → (word : Word) (file : List ℕ) → One (IsNoTrace word file)
-one-no_trace place word file a b x y (m, fault, none, s) (n, fault', none', t) =
+one-no_trace place word file a b x y (inl (old, s)) (inl (old', t)) =
+    one-said (Refused word OldTrace) (reason_line word OldTrace) a b x y s t
+one-no_trace place word file a b x y (inl (old, s)) (inr (new, n, fault, none, t)) = absurd (old-or-new file old new)
+one-no_trace place word file a b x y (inr (new, n, fault, none, t)) (inl (old, s)) = absurd (old-or-new file old new)
+one-no_trace place word file a b x y (inr (new, m, fault, none, s)) (inr (new', n, fault', none', t)) =
     one-said (Refused word (BadTrace m)) (reason_line word (BadTrace m)) a b x y s
     (subst (λ (k : ℕ). IsRefusal word (BadTrace k) b y) (place file n m fault' fault) t)
 
 pub one-decoding : OneReading → OnePlace → (word : Word) (file : List ℕ) (Next : Trace → Ending) → ((t : Trace) → One (Next t))
     → One (Decoding word file Next)
 one-decoding reading place word file Next one = one-step-by Same (IsNoTrace word file) (λ (t : Trace). Encodes t file) Next
-    (one-no_trace place word file) (reading file) (λ a x t no code. no.2 t code) (λ t _. one t)
+    (one-no_trace place word file) (reading file) (no_trace-apart word file) (λ t _. one t)

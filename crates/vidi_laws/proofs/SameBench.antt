@@ -8,7 +8,6 @@ use Rattle.vidi_commands.specs.env_script.declared.script.Script.{Script}
 use Rattle.vidi_commands.specs.env_script.Reasons.{read_lines}
 use Rattle.vidi_commands.specs.env_script.Reads.{ReadsScript}
 use Rattle.vidi_commands.specs.env_script.OneReading.{OnePlan, OneScript}
-use Rattle.vidi_commands.specs.run_model.AlikeLaws.{OneEnd, RunsAlike}
 use Rattle.vidi_commands.specs.vidi_io.Shelf.{Files}
 use Rattle.vidi_commands.specs.report_text.declared.reason.Word.TheVariants as words
 use Rattle.vidi_commands.specs.report_text.declared.reason.Reason.{Reason}
@@ -28,8 +27,6 @@ use Rattle.vidi_laws.proofs.SameDevice.{DeviceLaws, SameDevice, one-wiring, same
 -- the laws on which this rests
 pub record BenchLaws : Type 0 where
   pub devices : DeviceLaws
-  pub runs : RunsAlike
-  pub end : OneEnd
   pub script : OneScript
   pub plan : OnePlan
 

@@ -1,5 +1,5 @@
 -- `record`: one answer, which leaves one trace.
-use Rattle.std.proofs.Common.{◌≡◌, ℕ, ◌≤◌, Bool, false, List, Option, None, Some, Ok, Err, inl, inr, length, sym, ap, subst, ◌∙◌, arith}
+use Rattle.std.proofs.Common.{◌≡◌, ℕ, ◌≤◌, Bool, false, List, [], Option, None, Some, Ok, Err, inl, inr, length, sym, ap, subst, ◌∙◌, arith}
 use Rattle.vidi_commands.specs.trace_model.declared.channel.Channel.{Channel}
 use Rattle.vidi_commands.specs.trace_model.declared.row.Row.{Row}
 use Rattle.vidi_commands.specs.trace_model.Recording.{trace_of}
@@ -7,6 +7,7 @@ use Rattle.vidi_commands.specs.trace_code.Encoding.{encode}
 use Rattle.vidi_commands.specs.chan_map.declared.pins.Map.{Map}
 use Rattle.vidi_commands.specs.room_ledger.Gates.{Plan}
 use Rattle.vidi_commands.specs.room_ledger.Reservation.{need}
+use Rattle.vidi_commands.proofs.vidi_bits_lemmas.Lists.{some_same}
 use Rattle.vidi_commands.proofs.room_ledger_lemmas.GateLaws.{one-set}
 use Rattle.vidi_commands.proofs.run_model_lemmas.Ends.{one-end_of}
 use Rattle.vidi_commands.proofs.run_model_lemmas.Played.{the-runs_alike}
@@ -22,16 +23,16 @@ use Rattle.vidi_commands.specs.env_script.OneReading.{SamePlan}
 use Rattle.vidi_commands.specs.vidi_io.Shelf.{Files, holding}
 use Rattle.vidi_commands.specs.vidi_recorder.Course.{Course, GatesUnder, course, plan_of, sizes_of, IsTheRunOf}
 use Rattle.vidi_commands.specs.report_text.declared.reason.Word.TheVariants as words
-use Rattle.vidi_commands.specs.report_text.declared.reason.Reason.TheVariants.{StallLine, TooSmall}
+use Rattle.vidi_commands.specs.report_text.declared.reason.Reason.TheVariants.{ScriptLine, StallLine, TooSmall}
 use Rattle.vidi_commands.specs.report_text.Reason.{reason_line}
 use Rattle.vidi_commands.specs.vidi_bench.declared.bench.Bench.{Bench}
 use Rattle.vidi_commands.specs.vidi_bench.vidi_answer.declared.status.Status.{Status}
 use Rattle.vidi_commands.specs.vidi_bench.vidi_answer.declared.status.Status.TheVariants.{Done, Refused, Unstable}
-use Rattle.vidi_commands.specs.vidi_bench.Steps.{IsRefusal}
+use Rattle.vidi_commands.specs.vidi_bench.Steps.{Ending, IsRefusal, Step}
 use Rattle.vidi_commands.specs.vidi_bench.Reading.{Reading}
 use Rattle.vidi_commands.specs.vidi_bench.Benches.{RefusedTexts, IsBench}
 use Rattle.vidi_commands.specs.vidi_bench.Design.{text_limit}
-use Rattle.vidi_commands.specs.run_commands.Records.{IsNoPlan, IsTooSmall, RefusedPlan, RefusedPlanned}
+use Rattle.vidi_commands.specs.run_commands.Records.{HasResets, IsNoPlan, IsTooSmall, RefusedPlan, RefusedPlanned, RefusedStore}
 use Rattle.vidi_commands.specs.run_commands.Records.{IsUnrecorded, IsPlanned, IsRecorded, RecordsRun, Records, course_of}
 use Rattle.vidi_commands.specs.run_commands.Said.{recorded_line, unstable_line}
 use Rattle.vidi_laws.proofs.OneEnding.{Same, Meet, Apart, One, OneBy, one-said, one-read, one-reading-by, reading-apart, step-meets}
@@ -55,6 +56,16 @@ recorded-once channels rows None a b x y u v =
     one-said Done (recorded_line (length rows) (length (trace_of channels rows).packets)) a b x y u v
 recorded-once channels rows (Some c) a b x y u v =
     one-said (Unstable c (length rows)) (unstable_line channels c (length rows)) a b x y u v
+
+-- ---- a script with resets
+resets-once : (bytes : List ℕ) (script : Script) → One (HasResets bytes script)
+resets-once bytes script a b x y (l, some, is, s) (k, some', is', s') =
+    let line : k ≡ l = some_same k l (sym is' ∙ is) in
+    one-said (Refused words.Script (ScriptLine l)) (reason_line words.Script (ScriptLine l)) a b x y s
+    (subst (λ (n : ℕ). IsRefusal words.Script (ScriptLine n) b y) line s')
+
+resets-apart : (bytes : List ℕ) (script : Script) → Apart (HasResets bytes script) (λ (none : Unit {0}). script.resets ≡ [])
+resets-apart bytes script a x none (l, some, is, s) empty = some empty
 
 -- the same plan, for a course
 plan-path : (p q : Stalls) → SamePlan p q → plan_of q ≡ plan_of p
@@ -88,27 +99,39 @@ module _ (laws : BenchLaws) where
       → SamePlan p q
   one-plan_of bytes p q x y = laws.plan (read_lines bytes) (Ok p) (Ok q) x y
 
-  refused-plan : (stalls : List ℕ) (b : Bench) → One (RefusedPlan stalls b)
-  refused-plan stalls b = step-meets Same (IsNoPlan stalls) (IsNoPlan stalls) (λ (p : Stalls). ReadsStalls (read_lines stalls) (Ok p))
-      (λ (p : Stalls). ReadsStalls (read_lines stalls) (Ok p)) (IsTooSmall b.device.map.channels) (IsTooSmall b.device.map.channels)
+  refused-store : (stalls : List ℕ) (channels : List Channel) → One (RefusedStore stalls channels)
+  refused-store stalls channels = step-meets Same (IsNoPlan stalls) (IsNoPlan stalls) (λ (p : Stalls). ReadsStalls (read_lines stalls) (Ok p))
+      (λ (p : Stalls). ReadsStalls (read_lines stalls) (Ok p)) (IsTooSmall channels) (IsTooSmall channels)
       (no_plan stalls) (plan-apart stalls) (plan-apart stalls)
-      (λ p q is is'. small-once b.device.map.channels p q (one-plan_of stalls p q is is'))
+      (λ p q is is'. small-once channels p q (one-plan_of stalls p q is is'))
 
-  -- a bench counts by its map alone
-  other-plan : (stalls : List ℕ) (b c : Bench) → b.device.map ≡ c.device.map → (a : Status) (x : List ℕ) → RefusedPlan stalls c a x
-      → RefusedPlan stalls b a x
-  other-plan stalls b c same a x (inl none) = inl none
-  other-plan stalls b c same a x (inr (p, reads, small)) =
-      inr (p, reads, subst (λ (m : Map). IsTooSmall m.channels p a x) (sym same) small)
+  -- what ends the command with this script over these channels
+  abbrev RefusedWith : List ℕ → List ℕ → Script → List Channel → Ending
+  RefusedWith script stalls s channels =
+      Step (HasResets script s) (λ (none : Unit {0}). s.resets ≡ []) (λ none. RefusedStore stalls channels)
+
+  refused-plan : (script stalls : List ℕ) (b : Bench) → One (RefusedPlan script stalls b)
+  refused-plan script stalls b = step-meets Same (HasResets script b.script) (HasResets script b.script)
+      (λ (none : Unit {0}). b.script.resets ≡ []) (λ (none : Unit {0}). b.script.resets ≡ [])
+      (λ none. RefusedStore stalls b.device.map.channels) (λ none. RefusedStore stalls b.device.map.channels)
+      (resets-once script b.script) (resets-apart script b.script) (resets-apart script b.script)
+      (λ p q is is'. refused-store stalls b.device.map.channels)
+
+  -- a bench counts by its map and its script alone
+  other-plan : (script stalls : List ℕ) (b c : Bench) → SameBench b c → (a : Status) (x : List ℕ) → RefusedPlan script stalls c a x
+      → RefusedPlan script stalls b a x
+  other-plan script stalls b c same a x refused =
+      subst (λ (s : Script). RefusedWith script stalls s b.device.map.channels a x) (sym same.script)
+      (subst (λ (m : Map). RefusedWith script stalls c.script m.channels a x) (sym same.device.map) refused)
 
   pub refused-planned : (design m script stalls : List ℕ) → OneBy Alike (RefusedPlanned design m script stalls)
   refused-planned design m script stalls = step-meets Alike (RefusedTexts design m script) (RefusedTexts design m script)
-      (IsBench design m script) (IsBench design m script) (RefusedPlan stalls) (RefusedPlan stalls)
+      (IsBench design m script) (IsBench design m script) (RefusedPlan script stalls) (RefusedPlan script stalls)
       (one-refused_texts laws design m script)
       (λ a x b refused bench. texts-refused laws design m script b bench a x refused)
       (λ a x b refused bench. texts-refused laws design m script b bench a x refused)
-      (λ b c is is' s t x y u v. alike s t x y (refused-plan stalls b s t x y u
-      (other-plan stalls b c (same-bench laws design m script b c is is').device.map t y v)))
+      (λ b c is is' s t x y u v. alike s t x y (refused-plan script stalls b s t x y u
+      (other-plan script stalls b c (same-bench laws design m script b c is is') t y v)))
 
   unrecorded : (design m script stalls : List ℕ) (files : Files)
       → OneBy Alike (IsUnrecorded design m script stalls (Some files) (λ _. ⊥))
@@ -118,12 +141,14 @@ module _ (laws : BenchLaws) where
 
   -- ---- which isn't there where something is recorded
   module _ (design m script stalls : List ℕ) (b : Bench) (plan : Stalls) (bench : IsBench design m script b)
-      (planned : ReadsStalls (read_lines stalls) (Ok plan)) (holds : need (sizes_of b.device.map.channels) ≤ plan.capacity) (a : Status)
+      (none : b.script.resets ≡ []) (planned : ReadsStalls (read_lines stalls) (Ok plan)) (holds : need (sizes_of b.device.map.channels) ≤ plan.capacity) (a : Status)
       (x : List ℕ) where
     pub refused-apart : RefusedPlanned design m script stalls a x → ⊥
     refused-apart (inl refused) = texts-refused laws design m script b bench a x refused
-    refused-apart (inr (c, other, inl none)) = plan-apart stalls a x plan none planned
-    refused-apart (inr (c, other, inr (p, reads, (small, said)))) =
+    refused-apart (inr (c, other, inl (l, some, is, said))) =
+        some (ap (λ (s : Script). s.resets) (same-bench laws design m script c b other bench).script ∙ none)
+    refused-apart (inr (c, other, inr (empty, is, inl bad))) = plan-apart stalls a x plan bad planned
+    refused-apart (inr (c, other, inr (empty, is, inr (p, reads, (small, said))))) =
         let same = same-bench laws design m script c b other bench in
         let plans = one-plan_of stalls p plan reads planned in
         let least = subst (λ (k : Map). need (sizes_of k.channels) ≤ plan.capacity) (sym same.device.map) holds in
@@ -134,7 +159,7 @@ module _ (laws : BenchLaws) where
       (is : IsPlanned design m script stalls (Some files) b plan) (a : Status) (x : List ℕ) where
     planned-apart : RefusedPlanned is.design_text is.map_text is.script_text is.stalls_text a x → ⊥
     planned-apart =
-        refused-apart is.design_text is.map_text is.script_text is.stalls_text b plan is.bench is.planned is.holds a x
+        refused-apart is.design_text is.map_text is.script_text is.stalls_text b plan is.bench is.no_resets is.planned is.holds a x
 
     unrecorded-apart : IsUnrecorded design m script stalls (Some files) (λ _. ⊥) a x → ⊥
     unrecorded-apart = texts-apart design m script files

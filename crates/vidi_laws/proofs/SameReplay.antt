@@ -37,7 +37,7 @@ use Rattle.vidi_commands.specs.replay_command.Said.{replayed_line, unstable_line
 use Rattle.vidi_commands.specs.trace_commands.Traces.{trace_limit}
 use Rattle.vidi_laws.proofs.OneEnding.{One, OneBy, one-said, one-read, one-reading-by, reading-apart}
 use Rattle.vidi_laws.proofs.OneCheck.{Alike, alike}
-use Rattle.vidi_laws.proofs.OneTraces.{one-decoding, one-other, one-reset, one-verdict, reset-apart}
+use Rattle.vidi_laws.proofs.OneTraces.{no_trace-apart, one-decoding, one-other, one-reset, one-verdict, reset-apart}
 use Rattle.vidi_laws.proofs.SameDevice.{DeviceLaws, SameDevice, one-wiring, same-device, wiring-apart}
 use Rattle.vidi_laws.proofs.SameRecord.{LeftAlike}
 
@@ -131,7 +131,7 @@ module _ (laws : ReplayLaws) where
   -- ---- which isn't there where something is replayed
   trace-apart : (bytes : List ℕ) (m : Map) (t : Trace) → Encodes t bytes → t.channels ≡ m.channels → HasNoReset t.packets
       → (a : Status) (x : List ℕ) → RefusedTrace bytes m a x → ⊥
-  trace-apart bytes m t encodes same none a x (inl (at, fault, no_trace, s)) = no_trace t encodes
+  trace-apart bytes m t encodes same none a x (inl no_trace) = no_trace-apart words.Trace bytes a x t no_trace encodes
   trace-apart bytes m t encodes same none a x (inr (u, encodes', unfit)) = unfit-apart m.channels t same none a x
       (subst (λ (k : Trace). IsUnfit m.channels k a x) (laws.reading bytes u t encodes' encodes) unfit)
 

@@ -21,6 +21,7 @@ use Rattle.vidi_commands.specs.trace_compare.declared.report.What.TheVariants.{D
 use Rattle.vidi_commands.specs.trace_compare.Findings.{findings}
 use Rattle.vidi_commands.specs.run_model.Held.{held, waits}
 use Rattle.vidi_commands.specs.run_model.Laws.{AreInOrder, ContentsStay}
+use Rattle.vidi_commands.specs.run_model.Stretches.{and_stretch}
 use Rattle.vidi_commands.specs.replay_run.declared.outcome.ReplayOutcome.{ReplayOutcome}
 use Rattle.vidi_commands.specs.replay_run.declared.outcome.ReplayOutcome.TheVariants.{Ended, Short, Unstable}
 use Rattle.vidi_commands.specs.replay_run.Replaying.{GoesInNoCircle}
@@ -108,7 +109,7 @@ DrainedRecordingIsTheRun = (design map script stalls : List ℕ) (files : Option
     → IsPlanned design map script stalls files b plan
     → (rows : List Row) (stop : Option ℕ) → IsTheRunOf (course_of b plan) rows stop
     → EverythingDrains (sizes_of b.device.map.channels) (plan_of plan) rows
-    → IsPlainRun b.device.design b.device.map (script_offer b.script) b.script.cycles
+    → IsPlainRun b.device.design b.device.map (script_offer b.script) b.script.resets b.script.cycles
     (record { rows = rows; unstable = spot_behind rows stop })
 
 -- so it does where each line of the plan lets out all that the store can hold
@@ -124,10 +125,12 @@ RecordingHidesNoGate = (design map script stalls : List ℕ) (files : Option Fil
     → (t c : ℕ) (row : Row) → slice_get rows t ≡ Some row → c < length b.device.map.channels → has row.gates c ≡ false
     → 0 < used_at (sizes_of b.device.map.channels) (plan_of plan) rows t false
 
--- in the run that `run` prints each transaction's content in the row of its completion is that of its start
+-- in each stretch of the run that `run` prints, from one reset to the next, each transaction's content in the row of its completion is that
+-- of its start
 abbrev pub PrintedRunKeepsContents : Type 0
 PrintedRunKeepsContents = (design map script : List ℕ) (b : Bench) → IsBench design map script b → (run : PlainRun)
-    → IsPlainRun b.device.design b.device.map (script_offer b.script) b.script.cycles run → ContentsStay b.device.map.channels run.rows
+    → (is : IsPlainRun b.device.design b.device.map (script_offer b.script) b.script.resets b.script.cycles run)
+    → All (ContentsStay b.device.map.channels) (and_stretch is.past is.here)
 
 -- where the replay is short, the lists name exactly what it holds back, with what that awaits, and what it waits for
 abbrev pub AreNamed : List Channel → List Packet → List Row → ReplayOutcome → Type 0

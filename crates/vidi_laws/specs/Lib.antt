@@ -1,4 +1,5 @@
 pub mod Alike
 pub mod Headline
+pub mod Migrated
 pub mod OneAnswer
 pub mod OneRun

@@ -4,11 +4,12 @@ use Rattle.vidi_commands.specs.vidi_io.Shelf.{Files}
 use Rattle.vidi_commands.specs.trace_model.declared.row.Row.{Row}
 use Rattle.vidi_commands.specs.trace_model.declared.trace.Trace.{Trace}
 use Rattle.vidi_commands.specs.run_model.Laws.{OneOfLength, OneThatEnds}
+use Rattle.vidi_commands.specs.run_model.Stretches.{rows_of}
 use Rattle.vidi_commands.specs.replay_run.declared.outcome.ReplayOutcome.{ReplayOutcome}
 use Rattle.vidi_commands.specs.env_script.ScriptOffer.{script_offer}
 use Rattle.vidi_commands.specs.env_script.declared.stalls.Stalls.{Stalls}
 use Rattle.vidi_commands.specs.bench_run.Laws.{OneAnswerOf}
-use Rattle.vidi_commands.specs.bench_run.Plain.{IsRunAllUp}
+use Rattle.vidi_commands.specs.bench_run.Plain.{AreRunAllUp}
 use Rattle.vidi_commands.specs.vidi_recorder.Course.{IsRunOf, IsTheRunOf}
 use Rattle.vidi_commands.specs.vidi_bench.declared.bench.Bench.{Bench}
 use Rattle.vidi_commands.specs.vidi_bench.declared.device.Device.{Device}
@@ -22,11 +23,16 @@ OneRecording = (design map script stalls : List ℕ) (files : Option Files) (b :
     → IsPlanned design map script stalls files b plan
     → ((n : ℕ) → OneOfLength (IsRunOf (course_of b plan)) n) × OneThatEnds (IsTheRunOf (course_of b plan))
 
+-- the rows are those of a run that `run` may play, with the script's resets
+abbrev pub IsPlayable : Bench → List Row → Type 0
+IsPlayable b rows = (stretches : List (List Row))
+    × AreRunAllUp b.device.design b.device.map (script_offer b.script) b.script.resets stretches × (rows_of stretches ≡ rows)
+
 -- the same of `run`
 abbrev pub OnePrintedRun : Type 0
 OnePrintedRun = (design map script : List ℕ) (b : Bench) → IsBench design map script b
-    → ((n : ℕ) → OneOfLength (IsRunAllUp b.device.design b.device.map (script_offer b.script)) n)
-    × OneAnswerOf b.device.design b.device.map (script_offer b.script) b.script.cycles
+    → ((n : ℕ) → OneOfLength (IsPlayable b) n)
+    × OneAnswerOf b.device.design b.device.map (script_offer b.script) b.script.resets b.script.cycles
 
 -- exactly one list is *the replay* of at most n cycles, which ends in one way
 abbrev pub OneReplayOfFiles : Type 0

@@ -8,8 +8,10 @@ use vidi_commands::chan_map::{one_binding, one_map_text};
 use vidi_commands::env_script::{one_plan, one_script};
 use vidi_commands::net_order::one_settled_map;
 use vidi_commands::replay_run::one_outcome;
-use vidi_commands::run_model::{bound_is_map_of, driven_alike, maps_alike, one_end, runs_alike};
+use vidi_commands::run_model::{bound_is_map_of, driven_alike, maps_alike};
 use vidi_commands::trace_code::{one_place, one_reading, one_salvage};
+use vidi_commands::trace_edit::one_move;
+use vidi_commands::trace_v2::{one_old_place, one_old_reading, one_old_salvage};
 
 /// Lawful designs that have the parts of one file's instances are alike.
 pub fn built_alike()
@@ -24,6 +26,10 @@ pub fn one_answer()
     one_reading();
     one_place();
     one_salvage();
+    one_old_reading();
+    one_old_place();
+    one_old_salvage();
+    one_move();
     vidi_commands::vlog_lex::one_reading();
     vidi_commands::vlog_lex::read_or_stuck();
     vidi_commands::vlog_lex::one_stuck_line();
@@ -35,8 +41,6 @@ pub fn one_answer()
     built_alike();
     maps_alike();
     driven_alike();
-    runs_alike();
-    one_end();
     one_settled_map();
     bound_is_map_of();
     one_map_text();

@@ -12,7 +12,8 @@ pub use laws::{
     replay_is_faithful, wrapped_is_read_back,
 };
 pub use runs::{
-    broken_recording_is_salvaged, one_printed_run, one_recording, one_replay_of_files,
-    printed_run_keeps_contents, recorded_trace_is_replayable, recorded_trace_is_short,
-    recording_hides_no_gate, salvaged_trace_is_replayable, wide_plan_drains,
+    broken_recording_is_salvaged, migrated_trace_is_replayed, one_printed_run, one_recording,
+    one_replay_of_files, printed_run_keeps_contents, recorded_trace_is_replayable,
+    recorded_trace_is_short, recording_hides_no_gate, salvaged_trace_is_replayable,
+    wide_plan_drains,
 };

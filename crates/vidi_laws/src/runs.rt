@@ -1,9 +1,10 @@
 //! Laws of runs and of the replay: they exist, they are one, and what holds of them.
 
 ghost use Rattle.vidi_laws.specs.Headline.{BrokenRecordingIsSalvaged, PrintedRunKeepsContents, RecordedTraceIsReplayable, RecordedTraceIsShort, RecordingHidesNoGate, SalvagedTraceIsReplayable, WidePlanDrains};
+ghost use Rattle.vidi_laws.specs.Migrated.{MigratedTraceIsReplayed};
 ghost use Rattle.vidi_laws.specs.OneRun.{OnePrintedRun, OneRecording, OneReplayOfFiles};
 
-use vidi_commands::trace_code::front_is_salvaged;
+use vidi_commands::trace_code::{front_is_salvaged, one_reading};
 
 /// For accepted files there is exactly one run of each number of rows behind the store, and exactly one run that `record` writes.
 pub fn one_recording()
@@ -42,6 +43,13 @@ pub fn broken_recording_is_salvaged()
 pub fn salvaged_trace_is_replayable()
     ensures { SalvagedTraceIsReplayable }
 {}
+
+/// `replay` accepts what `migrate` writes of an old trace, on each design with its channels, and what is replayed is the old trace itself.
+pub fn migrated_trace_is_replayed()
+    ensures { MigratedTraceIsReplayed }
+{
+    one_reading()
+}
 
 /// In a recording a gate is down only while bytes wait in the store.
 pub fn recording_hides_no_gate()

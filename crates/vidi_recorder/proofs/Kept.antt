@@ -22,7 +22,7 @@ use Rattle.trace_code.proofs.trace_model_lemmas.TraceLaws.{trace-records}
 use Rattle.env_script.specs.run_model.Played.{all_up}
 use Rattle.env_script.specs.run_model.Run.{AllUp, IsRun}
 use Rattle.env_script.proofs.run_model_lemmas.Contents.{has-all, same-masks_below}
-use Rattle.env_script.proofs.run_model_lemmas.RunLaws.{StayUp, run-keeps, run-none_fresh, kept}
+use Rattle.env_script.proofs.run_model_lemmas.RunLaws.{StayUp, run-keeps, none-behind, kept}
 use Rattle.room_ledger.specs.Gates.{Plan, charged_at, keeps, used_at, AreGates}
 use Rattle.room_ledger.specs.Reservation.{least, AreRaised}
 use Rattle.room_ledger.proofs.Following.{used-front}
@@ -93,9 +93,9 @@ pub run-is_kept : TheRunIsKept
 run-is_kept d m offer stalls cycles rows stop table lasting few is =
     let w = course d m offer stalls cycles in
     let r = the-run w rows stop is in
-    let keep = run-keeps d m w.offers (GatesUnder m.channels w.plan) rows (offers-stay m.channels offer lasting)
+    let keep = run-keeps false d m w.offers (GatesUnder m.channels w.plan) rows (offers-stay m.channels offer lasting)
     (gates-stay m.channels w.plan) r.0 r.1 in
-    let both = kept m.channels rows (run-none_fresh d m w.offers (GatesUnder m.channels w.plan) rows r.0) r.0.marked keep in
+    let both = kept m.channels rows (none-behind false rows (λ t row at. (r.0.ruled t row at).2)) r.0.marked keep in
     record {
       starts = λ c. trace-records m.channels rows (λ t row at. (r.0.marked t row at).0) c;
       ends = λ c. ends-from m.channels 0 0 c rows

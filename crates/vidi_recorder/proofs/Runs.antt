@@ -131,7 +131,7 @@ gates-fixed channels plan before are =
 
 module _ (w : Course) (ready : IsReady w.design w.bound) (fit : OffersFit w.bound.channels w.offers) where
   pub one-list : (n : ℕ) → OneOfLength (IsRunOf w) n
-  one-list n = one-of_length w.design w.bound ready w.offers fit (GatesUnder w.bound.channels w.plan)
+  one-list n = one-of_length false w.design w.bound ready w.offers fit (GatesUnder w.bound.channels w.plan)
       (gates-fixed w.bound.channels w.plan) n
 
   pub one-course : OneThatEnds (IsTheRunOf w)

@@ -54,7 +54,7 @@ follows-row w rows l row stays run stable g unmarked marked = record {
     shown : (o : Option Row) → row_before rows (length rows) ≡ o → (c : ℕ) → flies_after o c ≡ true → sink_valid row c ≡ true
     shown None e c h = absurd (false≢true h)
     shown (Some b) e c h =
-        (run-keeps w.design w.bound w.offers (GatesUnder w.bound.channels w.plan) (rows ++ row ∷ []) stays
+        (run-keeps false w.design w.bound w.offers (GatesUnder w.bound.channels w.plan) (rows ++ row ∷ []) stays
         (gates-stay w.bound.channels w.plan) run stable (length rows) b row
         (before-append rows row (length rows) (omega arith) ∙ e) (slice_get-last rows row) c h).valid
 

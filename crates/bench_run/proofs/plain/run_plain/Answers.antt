@@ -10,7 +10,7 @@ use Rattle.bench_run.proofs.plain.run_plain.Goals as goal
 pub returns-in_err-shell-clause-memory : goal.returns-in_err-shell-clause-memory
 returns-in_err-shell-clause-memory g c =
     let said : (c.args.env.now ≡ c.args.env.now) ⊎ StandsWithin (g.E.Env.stands_for c.args.env.now) (g.B.Block.design c.args.block.now)
-    c.args.map.now (g.E.Env.offer (g.E.Env.plan c.args.env.now)) c.args.cycles = inl refl in
+    c.args.map.now (g.E.Env.offer (g.E.Env.plan c.args.env.now)) c.args.resets.now c.args.cycles = inl refl in
     on_err _ said
 
 pub returns-clause-run : goal.returns-clause-run
@@ -45,7 +45,7 @@ returns-clause-design g c =
     sym (ap (λ l. l.block.ghost_name) c.into_block-back.ensures ∙ kept ∙ c.new.ensures.same) in
     let back = c.block-2-1.given.1 same in
     IfOk-weaker c.run_shell-run.result _ _ (λ run is. ap g.B.Block.design back
-    ∙ ap (λ l. g.B.Block.design l.block.now) c.into_block-back.ensures ∙ (is d s None runs).1.design_is) c.run_shell-run.ensures.behind
+    ∙ ap (λ l. g.B.Block.design l.block.now) c.into_block-back.ensures ∙ (is d s None runs).at.design_is) c.run_shell-run.ensures.behind
 
 pub returns-clause-behind : goal.returns-clause-behind
 returns-clause-behind g c =
@@ -59,6 +59,6 @@ returns-clause-behind g c =
     sym (ap (λ l. l.block.ghost_name) c.into_block-back.ensures ∙ kept ∙ c.new.ensures.same) in
     let back = c.block-2-1.given.1 same in
     let offer = g.E.Env.offer (g.E.Env.plan c.args.env.now) in
-    IfOk-weaker c.run_shell-run.result _ _ (λ run is. stands-behind _ d c.args.map.now offer run.rows (is d s None runs).0
-    (ap g.B.Block.state back ∙ ap (λ l. g.B.Block.state l.block.now) c.into_block-back.ensures
-    ∙ (is d s None runs).1.state_is)) c.run_shell-run.ensures.behind
+    IfOk-weaker c.run_shell-run.result _ _ (λ run is. stands-behind _ _ d c.args.map.now offer c.args.resets.now run.rows
+    (is d s None runs) (ap g.B.Block.state back ∙ ap (λ l. g.B.Block.state l.block.now) c.into_block-back.ensures
+    ∙ (is d s None runs).at.state_is)) c.run_shell-run.ensures.behind

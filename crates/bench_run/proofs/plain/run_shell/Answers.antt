@@ -9,7 +9,7 @@ use Rattle.bench_run.proofs.plain.run_shell.Goals as goal
 
 pub returns-in_err-two-clause-memory : goal.returns-in_err-two-clause-memory
 returns-in_err-two-clause-memory g c = on_err c.from_residual.result (λ d s before is.
-    nothing-yet d c.args.map.now (g.S.Shell.map c.args.shell.now) (g.E.Env.offer (g.E.Env.plan c.args.env.now)) c.args.cycles
+    nothing-yet d c.args.map.now (g.S.Shell.map c.args.shell.now) (g.E.Env.offer (g.E.Env.plan c.args.env.now)) c.args.resets.now c.args.cycles
     (g.S.Shell.runs c.reset.new.self) (g.E.Env.stands_for c.args.env.now) c.requires.mapped (c.reset.ensures.first d s before is)
     c.requires.first)
 
@@ -21,7 +21,7 @@ given_now-requires-clause-fits g c =
 
 pub returns-in_err-given-clause-memory : goal.returns-in_err-given-clause-memory
 returns-in_err-given-clause-memory g c = on_err c.from_residual-in_err-given.result (λ d s before is.
-    nothing-yet d c.args.map.now (g.S.Shell.map c.args.shell.now) (g.E.Env.offer (g.E.Env.plan c.args.env.now)) c.args.cycles
+    nothing-yet d c.args.map.now (g.S.Shell.map c.args.shell.now) (g.E.Env.offer (g.E.Env.plan c.args.env.now)) c.args.resets.now c.args.cycles
     (g.S.Shell.runs c.reset.new.self) (g.E.Env.stands_for c.args.env.now) c.requires.mapped (c.reset.ensures.first d s before is)
     c.requires.first)
 
@@ -36,7 +36,7 @@ run_player-requires-clause-begun g c = ∥∥₁_map (g.met.S.Shell.running c.ar
 pub returns-clause-run : goal.returns-clause-run
 returns-clause-run g c d s before is =
     let same : c.cells-2-1.given.0 ≡ c.run_player.new.player.cells.now = search rules in
-    plain-also d c.args.map.now (g.E.Env.offer (g.E.Env.plan c.args.env.now)) c.args.cycles c.run_player.new.player.cells.now.rows
+    plain-also d c.args.map.now (g.E.Env.offer (g.E.Env.plan c.args.env.now)) c.args.resets.now c.args.cycles c.run_player.new.player.cells.now.rows
     c.cells-2-1.given.0.rows _ c.spot_of.result (ap (λ (x : PlainCells). x.rows) same) c.spot_of.ensures
     (c.in_ok-ending.ensures.run d (has-begun d c.args.map.now (g.S.Shell.map c.args.shell.now) (g.S.Shell.runs c.reset.new.self)
     c.requires.mapped (c.reset.ensures.first d s before is)))
@@ -44,7 +44,7 @@ returns-clause-run g c d s before is =
 pub returns-clause-behind : goal.returns-clause-behind
 returns-clause-behind g c d s before is =
     let same : c.cells-2-1.given.0 ≡ c.run_player.new.player.cells.now = search rules in
-    subst (GoesOn (g.S.Shell.runs c.run_player.new.shell) d c.args.map.now (g.E.Env.offer (g.E.Env.plan c.args.env.now)))
+    subst (GoesOn (g.S.Shell.runs c.run_player.new.shell) d c.args.map.now (g.E.Env.offer (g.E.Env.plan c.args.env.now)) c.args.resets.now)
     (sym (ap (λ (x : PlainCells). x.rows) same))
     (c.in_ok-ending.ensures.behind d (has-begun d c.args.map.now (g.S.Shell.map c.args.shell.now) (g.S.Shell.runs c.reset.new.self)
     c.requires.mapped (c.reset.ensures.first d s before is)))
@@ -52,6 +52,6 @@ returns-clause-behind g c d s before is =
 pub returns-in_err-ending-clause-memory : goal.returns-in_err-ending-clause-memory
 returns-in_err-ending-clause-memory g c = on_err c.from_residual-in_err-ending.result (λ d s before is.
     (let same : c.env-1.given.0 ≡ c.run_player.new.player.env.now = search rules in
-    subst (λ x. StandsWithin (g.E.Env.stands_for x) d c.args.map.now (g.E.Env.offer (g.E.Env.plan c.args.env.now)) c.args.cycles) (sym same)
+    subst (λ x. StandsWithin (g.E.Env.stands_for x) d c.args.map.now (g.E.Env.offer (g.E.Env.plan c.args.env.now)) c.args.resets.now c.args.cycles) (sym same)
     (c.in_err-ending.ensures.memory d (has-begun d c.args.map.now (g.S.Shell.map c.args.shell.now) (g.S.Shell.runs c.reset.new.self)
     c.requires.mapped (c.reset.ensures.first d s before is)))))

@@ -1,15 +1,15 @@
-use Rattle.std.proofs.Common.{ℕ, List, Ok, inl, inr}
+use Rattle.std.proofs.Common.{ℕ, List, inl, inr}
 use Rattle.vidi_answer.specs.vidi_io.Cause.{Rose}
 use Rattle.vidi_answer.specs.vidi_io.Shelf.{HasStarted}
 use Rattle.vidi_answer.specs.vidi_io.Writing.{IsKept}
 use Rattle.vidi_answer.proofs.vidi_io_lemmas.Cut.{started-since}
 use Rattle.vidi_answer.specs.report_text.declared.reason.Word.TheVariants as words
-use Rattle.vidi_answer.specs.trace_code.Salvage.{SalvagesFront}
-use Rattle.vidi_answer.specs.Ended.{EndsWith}
 use Rattle.vidi_answer.specs.Reading.{IsUnread}
-use Rattle.trace_commands.specs.Traces.{trace_limit, IsHeaderless, Saves, StopsSaving}
+use Rattle.trace_commands.specs.Said.{salvaged_line}
+use Rattle.trace_commands.specs.Traces.{trace_limit, IsHeaderless, IsUnsaved, IsWhole, IsWholeIn, Saves, StopsSaving}
+use Rattle.trace_commands.specs.Written.{Holds}
 use Rattle.vidi_answer.proofs.Chain.{passed-owed, rose-since}
-use Rattle.trace_commands.proofs.Saved.{saved-owed}
+use Rattle.trace_commands.proofs.WrittenTraces.{holds-as, written-owed}
 use Rattle.trace_commands.proofs.salvaging.salvage.Goals as goal
 
 pub returns-in_err-file-clause-owed : goal.returns-in_err-file-clause-owed
@@ -34,30 +34,32 @@ returns-in_err-whole-clause-owed g c =
     let trace = c.args.trace.now in
     let out = c.args.out.now in
     let file = c.in_ok-file.file in
-    let e = c.in_err-whole.field-0.0 in
-    let refused : EndsWith (IsHeaderless file) e = rw c.as_slice.ensures at c.in_err-whole.ensures.refused in
     let P = HasStarted (S.starts c.args.shelf.now) (S.starts c.read_file.new.shelf) in
     let kept : IsKept files P (S.files c.read_file.new.shelf) = (c.read_file.ensures.files, c.read_file.ensures.starts) in
     passed-owed (IsHeaderless file) (Saves trace out files F P) (StopsSaving trace out files P)
     (Rose (S.write_faults c.args.shelf.now) (S.write_faults c.read_file.new.shelf)) (IsKept files P) (S.files c.read_file.new.shelf)
-    e c.from_residual-in_err-whole.result c.from_residual-in_err-whole.ensures.1 kept
-    (λ a x is. inl (inr (file, c.in_ok-file.ensures.read, is), kept)) refused
+    c.in_err-whole.field-0.0 c.from_residual-in_err-whole.result c.from_residual-in_err-whole.ensures.1 kept
+    (λ a x is. inl (inr (file, c.in_ok-file.ensures.read, is), kept)) c.in_err-whole.ensures.refused
 
 pub returns-clause-owed : goal.returns-clause-owed
 returns-clause-owed g c =
     let S = g.S.Shelf in
     let files = S.files c.args.shelf.now in
-    let F = λ (name : List ℕ). Rose (S.read_faults c.args.shelf.now name) (S.read_faults c.saved.new.shelf name) in
+    let F = λ (name : List ℕ). Rose (S.read_faults c.args.shelf.now name) (S.read_faults c.written.new.shelf name) in
+    let trace = c.args.trace.now in
     let old = S.write_faults c.args.shelf.now in
     let middle = S.write_faults c.read_file.new.shelf in
-    let now = S.write_faults c.saved.new.shelf in
-    let whole : SalvagesFront c.in_ok-file.file (Ok c.in_ok-whole.whole) = rw c.as_slice.ensures at c.in_ok-whole.ensures.whole in
-    saved-owed c.args.trace.now c.args.out.now files (S.files c.read_file.new.shelf) (S.files c.saved.new.shelf) F c.in_ok-file.file
-    c.in_ok-whole.whole (Rose middle now) (Rose old now)
-    (HasStarted (S.starts c.read_file.new.shelf) (S.starts c.saved.new.shelf))
-    (HasStarted (S.starts c.args.shelf.now) (S.starts c.saved.new.shelf))
-    c.saved.result c.in_ok-file.ensures.read whole c.read_file.ensures.files
+    let now = S.write_faults c.written.new.shelf in
+    let file = c.in_ok-file.file in
+    let whole = c.in_ok-whole.whole in
+    let holds : Holds (IsWhole trace files) whole =
+    holds-as (IsWholeIn file) (IsWhole trace files) whole (λ t is. (file, c.in_ok-file.ensures.read, is)) c.in_ok-whole.ensures.whole in
+    written-owed (IsUnsaved trace files F) (IsWhole trace files) salvaged_line c.args.out.now files (S.files c.read_file.new.shelf)
+    (S.files c.written.new.shelf) whole (Rose middle now) (Rose old now)
+    (HasStarted (S.starts c.read_file.new.shelf) (S.starts c.written.new.shelf))
+    (HasStarted (S.starts c.args.shelf.now) (S.starts c.written.new.shelf))
+    c.written.result holds c.read_file.ensures.files
     (λ rose. rose-since old middle now c.read_file.ensures.counts.writes rose)
-    (λ once. started-since (S.starts c.args.shelf.now) (S.starts c.read_file.new.shelf) (S.starts c.saved.new.shelf) once
+    (λ once. started-since (S.starts c.args.shelf.now) (S.starts c.read_file.new.shelf) (S.starts c.written.new.shelf) once
     c.read_file.ensures.starts)
-    c.saved.ensures.done c.saved.ensures.files c.saved.ensures.started c.saved.ensures.stopped
+    c.written.ensures.done c.written.ensures.files c.written.ensures.started c.written.ensures.stopped

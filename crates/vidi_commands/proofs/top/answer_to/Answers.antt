@@ -4,11 +4,14 @@ use Rattle.wrap_command.specs.vidi_io.Shelf.{HasStarted}
 use Rattle.wrap_command.specs.vidi_io.Writing.{IsKept}
 use Rattle.vidi_commands.specs.Answer.{Earns, Stops}
 use Rattle.sample_command.specs.run_commands.Checks.{Checks}
-use Rattle.vidi_commands.specs.Command.{Check, Compare, Dump, IsGiven, Record, Replay, Run, Salvage, Sample, Wrap}
+use Rattle.vidi_commands.specs.Command.{Bursts, Check, Compare, Dump, IsGiven, Migrate, Move, Record, Replay, Run, Salvage, Sample, Wrap}
 use Rattle.sample_command.specs.run_commands.Records.{Records, StopsRecording}
 use Rattle.sample_command.specs.replay_command.Replays.{Replays, StopsReplaying}
 use Rattle.sample_command.specs.run_commands.Runs.{Runs}
 use Rattle.sample_command.specs.Samples.{Samples}
+use Rattle.trace_commands.specs.Bursts as grouping
+use Rattle.trace_commands.specs.Moves.{wanted, MovesEnd, StopsMoving}
+use Rattle.trace_commands.specs.Migrating.{Migrates, StopsMigrating}
 use Rattle.trace_commands.specs.Traces.{Compares, Dumps, Saves, StopsSaving}
 use Rattle.wrap_command.specs.Wraps.{StopsWrapping, Wraps}
 use Rattle.wrap_command.proofs.vidi_bench_lemmas.Chain.{owed, owed-as}
@@ -128,6 +131,53 @@ returns-in-Some-Salvage-clause-owed g c =
     owed-as (Saves trace out files F P) (Earns words files F P) (StopsSaving trace out files P) (Stops words files P)
     (Rose (S.write_faults c.args.shelf.now) (S.write_faults c.salvage.new.shelf)) (IsKept files P) left c.salvage.result
     (λ a x is. inr (inr (Salvage trace out, given, is))) (λ cut. (Salvage trace out, given, cut)) c.salvage.ensures.owed
+
+pub returns-in-Some-Migrate-clause-owed : goal.returns-in-Some-Migrate-clause-owed
+returns-in-Some-Migrate-clause-owed g c =
+    let S = g.S.Shelf in
+    let words = c.args.words.now in
+    let files = S.files c.args.shelf.now in
+    let left = S.files c.migrate.new.shelf in
+    let F = λ (name : List ℕ). Rose (S.read_faults c.args.shelf.now name) (S.read_faults c.migrate.new.shelf name) in
+    let P = HasStarted (S.starts c.args.shelf.now) (S.starts c.migrate.new.shelf) in
+    let trace = c.in-Some-Migrate.trace.now in
+    let out = c.in-Some-Migrate.out.now in
+    let given : IsGiven words (Migrate trace out) = rw c.in-Some-Migrate.field-0-is at c.in-Some-Migrate.ensures in
+    owed-as (Migrates trace out files F P) (Earns words files F P) (StopsMigrating trace out files P) (Stops words files P)
+    (Rose (S.write_faults c.args.shelf.now) (S.write_faults c.migrate.new.shelf)) (IsKept files P) left c.migrate.result
+    (λ a x is. inr (inr (Migrate trace out, given, is))) (λ cut. (Migrate trace out, given, cut)) c.migrate.ensures.owed
+
+pub returns-in-Some-Bursts-clause-owed : goal.returns-in-Some-Bursts-clause-owed
+returns-in-Some-Bursts-clause-owed g c =
+    let S = g.S.Shelf in
+    let words = c.args.words.now in
+    let files = S.files c.args.shelf.now in
+    let left = S.files c.bursts.new.shelf in
+    let F = λ (name : List ℕ). Rose (S.read_faults c.args.shelf.now name) (S.read_faults c.bursts.new.shelf name) in
+    let P = HasStarted (S.starts c.args.shelf.now) (S.starts c.bursts.new.shelf) in
+    let trace = c.in-Some-Bursts.trace.now in
+    let axi = c.in-Some-Bursts.axi.now in
+    let given : IsGiven words (Bursts trace axi) = rw c.in-Some-Bursts.field-0-is at c.in-Some-Bursts.ensures in
+    owed (grouping.Bursts trace axi files F) (Earns words files F P) (Stops words files P)
+    (Rose (S.write_faults c.args.shelf.now) (S.write_faults c.bursts.new.shelf)) (IsKept files P) left c.bursts.result
+    (c.bursts.ensures.files, c.bursts.ensures.starts)
+    (λ a x is. inr (inr (Bursts trace axi, given, (is, (c.bursts.ensures.files, c.bursts.ensures.starts))))) c.bursts.ensures.answered
+
+pub returns-in-Some-Move-clause-owed : goal.returns-in-Some-Move-clause-owed
+returns-in-Some-Move-clause-owed g c =
+    let S = g.S.Shelf in
+    let words = c.args.words.now in
+    let files = S.files c.args.shelf.now in
+    let left = S.files c.move_completion.new.shelf in
+    let F = λ (name : List ℕ). Rose (S.read_faults c.args.shelf.now name) (S.read_faults c.move_completion.new.shelf name) in
+    let P = HasStarted (S.starts c.args.shelf.now) (S.starts c.move_completion.new.shelf) in
+    let trace = c.in-Some-Move.trace.now in
+    let wish = wanted c.in-Some-Move.wish in
+    let out = c.in-Some-Move.out.now in
+    let given : IsGiven words (Move trace wish out) = rw c.in-Some-Move.field-0-is at c.in-Some-Move.ensures in
+    owed-as (MovesEnd trace wish out files F P) (Earns words files F P) (StopsMoving trace wish out files P) (Stops words files P)
+    (Rose (S.write_faults c.args.shelf.now) (S.write_faults c.move_completion.new.shelf)) (IsKept files P) left c.move_completion.result
+    (λ a x is. inr (inr (Move trace wish out, given, is))) (λ cut. (Move trace wish out, given, cut)) c.move_completion.ensures.owed
 
 pub returns-in-Some-Wrap-clause-owed : goal.returns-in-Some-Wrap-clause-owed
 returns-in-Some-Wrap-clause-owed g c =

@@ -26,10 +26,12 @@ returns c =
       reading = c.one_reading.ensures;
       place = c.one_place.ensures;
       salvage = c.one_salvage.ensures;
+      old_reading = c.one_old_reading.ensures;
+      old_place = c.one_old_place.ensures;
+      old_salvage = c.one_old_salvage.ensures;
+      move = c.one_move.ensures;
       benches = record {
         devices = devices;
-        runs = c.runs_alike.ensures;
-        end = c.one_end.ensures;
         script = c.one_script.ensures;
         plan = c.one_plan.ensures;
       };

@@ -1,7 +1,7 @@
 use Rattle.std.proofs.Common.{◌≡◌, List, [], ◌∷◌, ℕ, sym, ◌∙◌, subst}
 use Rattle.std.specs.Prelude.{MatchOption}
 use Rattle.vidi_commands.specs.Command.{Command, IsGiven, plain}
-use Rattle.vidi_commands.proofs.WordLists.{two, three, six}
+use Rattle.vidi_commands.proofs.WordLists.{two, three, six, eight}
 use Rattle.vidi_commands.proofs.command.Command.of.Goals as goal
 
 pub returns-in-len2 : goal.returns-in-len2
@@ -42,3 +42,21 @@ returns-in-len6 c =
     parts ∙ sym shape ∙ c.as_slice.ensures in
     subst (λ (ws : List (List ℕ)). MatchOption c.of_five.result ((k : Command) → ¬ IsGiven ws k) (λ k. IsGiven ws (plain k))) whole
     c.of_five.ensures
+
+pub returns-in-len8 : goal.returns-in-len8
+returns-in-len8 c =
+    let shape = eight c.as_slice.result.now c.name-item-then-this-lt9.result c.trace-item-then-this-lt9.result c.channel-item.result
+    c.index-item.result c.side-item.result c.other-item.result c.other_index-item.result c.out-item.result c.in-len8.len_at_least
+    c.in-len8.len_below c.name-item-then-this-lt9.is c.trace-item-then-this-lt9.is c.channel-item.is c.index-item.is c.side-item.is
+    c.other-item.is c.other_index-item.is c.out-item.is in
+    let parts : c.as_str-in-len8-6.result.now ∷ c.as_str-in-len8-7.result.now ∷ c.as_str-in-len8.result.now ∷ c.as_str-in-len8-2.result.now
+    ∷ c.as_str-in-len8-3.result.now ∷ c.as_str-in-len8-4.result.now ∷ c.as_str-in-len8-5.result.now ∷ c.as_str-in-len8-8.result.now ∷ []
+    ≡ c.name-item-then-this-lt9.result ∷ c.trace-item-then-this-lt9.result ∷ c.channel-item.result ∷ c.index-item.result
+    ∷ c.side-item.result ∷ c.other-item.result ∷ c.other_index-item.result ∷ c.out-item.result ∷ [] =
+    λ i. c.as_str-in-len8-6.ensures i ∷ c.as_str-in-len8-7.ensures i ∷ c.as_str-in-len8.ensures i ∷ c.as_str-in-len8-2.ensures i
+    ∷ c.as_str-in-len8-3.ensures i ∷ c.as_str-in-len8-4.ensures i ∷ c.as_str-in-len8-5.ensures i ∷ c.as_str-in-len8-8.ensures i ∷ [] in
+    let whole : c.as_str-in-len8-6.result.now ∷ c.as_str-in-len8-7.result.now ∷ c.as_str-in-len8.result.now ∷ c.as_str-in-len8-2.result.now
+    ∷ c.as_str-in-len8-3.result.now ∷ c.as_str-in-len8-4.result.now ∷ c.as_str-in-len8-5.result.now ∷ c.as_str-in-len8-8.result.now ∷ []
+    ≡ c.args.words.now = parts ∙ sym shape ∙ c.as_slice.ensures in
+    subst (λ (ws : List (List ℕ)). MatchOption c.of_seven.result ((k : Command) → ¬ IsGiven ws k) (λ k. IsGiven ws (plain k))) whole
+    c.of_seven.ensures

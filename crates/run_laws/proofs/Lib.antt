@@ -1,0 +1,4 @@
+pub mod Chaining
+pub mod StretchLaws
+pub mod Ending
+pub mod Behind

@@ -1,5 +1,0 @@
-use Rattle.run_model.proofs.StretchLaws.{no-circle_in_stretches}
-use Rattle.run_model.proofs.stretches.no_circle_in_stretches.Goals as goal
-
-pub returns : goal.returns
-returns c = no-circle_in_stretches

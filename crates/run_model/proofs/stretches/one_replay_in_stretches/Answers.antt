@@ -1,5 +1,0 @@
-use Rattle.run_model.proofs.StretchLaws.{one-replay_in_stretches}
-use Rattle.run_model.proofs.stretches.one_replay_in_stretches.Goals as goal
-
-pub returns : goal.returns
-returns c = one-replay_in_stretches

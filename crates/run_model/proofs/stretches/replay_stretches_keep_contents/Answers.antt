@@ -1,5 +1,0 @@
-use Rattle.run_model.proofs.StretchLaws.{replay-stretches_keep_contents}
-use Rattle.run_model.proofs.stretches.replay_stretches_keep_contents.Goals as goal
-
-pub returns : goal.returns
-returns c = replay-stretches_keep_contents

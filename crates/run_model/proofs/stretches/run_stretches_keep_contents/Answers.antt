@@ -1,5 +1,0 @@
-use Rattle.run_model.proofs.StretchLaws.{run-stretches_keep_contents}
-use Rattle.run_model.proofs.stretches.run_stretches_keep_contents.Goals as goal
-
-pub returns : goal.returns
-returns c = run-stretches_keep_contents

@@ -1,0 +1,70 @@
+use Rattle.std.proofs.Common.{ℕ, List, inl, inr}
+use Rattle.vidi_answer.specs.trace_code.trace_model.declared.trace.Trace.{Trace}
+use Rattle.vidi_answer.specs.trace_v2.Old.{EncodesOld}
+use Rattle.vidi_answer.specs.vidi_io.Cause.{Rose}
+use Rattle.vidi_answer.specs.vidi_io.Shelf.{HasStarted}
+use Rattle.vidi_answer.specs.vidi_io.Writing.{IsKept}
+use Rattle.vidi_answer.proofs.vidi_io_lemmas.Cut.{started-since}
+use Rattle.vidi_answer.specs.report_text.declared.reason.Word.TheVariants as words
+use Rattle.vidi_answer.specs.Ended.{EndsWith}
+use Rattle.vidi_answer.specs.Reading.{IsUnread}
+use Rattle.trace_commands.specs.Said.{migrated_line}
+use Rattle.trace_commands.specs.Migrating.{old_trace_limit, IsNoOldTrace, IsOldTraceOf, IsUnmigrated, Migrates, StopsMigrating}
+use Rattle.trace_commands.specs.Written.{Holds}
+use Rattle.vidi_answer.proofs.Chain.{passed-owed, rose-since}
+use Rattle.trace_commands.proofs.WrittenTraces.{holds-as, written-owed}
+use Rattle.trace_commands.proofs.migrating.migrate.Goals as goal
+
+pub returns-in_err-file-clause-owed : goal.returns-in_err-file-clause-owed
+returns-in_err-file-clause-owed g c =
+    let S = g.S.Shelf in
+    let files = S.files c.args.shelf.now in
+    let F = λ (name : List ℕ). Rose (S.read_faults c.args.shelf.now name) (S.read_faults c.read_file.new.shelf name) in
+    let trace = c.args.trace.now in
+    let out = c.args.out.now in
+    let P = HasStarted (S.starts c.args.shelf.now) (S.starts c.read_file.new.shelf) in
+    let kept : IsKept files P (S.files c.read_file.new.shelf) = (c.read_file.ensures.files, c.read_file.ensures.starts) in
+    passed-owed (IsUnread old_trace_limit words.Trace trace files F) (Migrates trace out files F P) (StopsMigrating trace out files P)
+    (Rose (S.write_faults c.args.shelf.now) (S.write_faults c.read_file.new.shelf)) (IsKept files P) (S.files c.read_file.new.shelf)
+    c.in_err-file.field-0.0 c.from_residual.result c.from_residual.ensures.1 kept (λ a x is. inl (inl is, kept))
+    c.in_err-file.ensures.refused
+
+pub returns-in_err-new-clause-owed : goal.returns-in_err-new-clause-owed
+returns-in_err-new-clause-owed g c =
+    let S = g.S.Shelf in
+    let files = S.files c.args.shelf.now in
+    let F = λ (name : List ℕ). Rose (S.read_faults c.args.shelf.now name) (S.read_faults c.read_file.new.shelf name) in
+    let trace = c.args.trace.now in
+    let out = c.args.out.now in
+    let file = c.in_ok-file.file in
+    let refused : EndsWith (IsNoOldTrace file) c.in_err-new.field-0.0 = rw c.as_slice.ensures at c.in_err-new.ensures.refused in
+    let P = HasStarted (S.starts c.args.shelf.now) (S.starts c.read_file.new.shelf) in
+    let kept : IsKept files P (S.files c.read_file.new.shelf) = (c.read_file.ensures.files, c.read_file.ensures.starts) in
+    passed-owed (IsNoOldTrace file) (Migrates trace out files F P) (StopsMigrating trace out files P)
+    (Rose (S.write_faults c.args.shelf.now) (S.write_faults c.read_file.new.shelf)) (IsKept files P) (S.files c.read_file.new.shelf)
+    c.in_err-new.field-0.0 c.from_residual-in_err-new.result c.from_residual-in_err-new.ensures.1 kept
+    (λ a x is. inl (inr (file, c.in_ok-file.ensures.read, is), kept)) refused
+
+pub returns-clause-owed : goal.returns-clause-owed
+returns-clause-owed g c =
+    let S = g.S.Shelf in
+    let files = S.files c.args.shelf.now in
+    let F = λ (name : List ℕ). Rose (S.read_faults c.args.shelf.now name) (S.read_faults c.written.new.shelf name) in
+    let trace = c.args.trace.now in
+    let old = S.write_faults c.args.shelf.now in
+    let middle = S.write_faults c.read_file.new.shelf in
+    let now = S.write_faults c.written.new.shelf in
+    let file = c.in_ok-file.file in
+    let new = c.in_ok-new.new in
+    let migrated : Holds (λ (t : Trace). EncodesOld t file) new = rw c.as_slice.ensures at c.in_ok-new.ensures.migrated in
+    let holds : Holds (IsOldTraceOf trace files) new =
+    holds-as (λ (t : Trace). EncodesOld t file) (IsOldTraceOf trace files) new (λ t is. (file, c.in_ok-file.ensures.read, is)) migrated in
+    written-owed (IsUnmigrated trace files F) (IsOldTraceOf trace files) migrated_line c.args.out.now files (S.files c.read_file.new.shelf)
+    (S.files c.written.new.shelf) new (Rose middle now) (Rose old now)
+    (HasStarted (S.starts c.read_file.new.shelf) (S.starts c.written.new.shelf))
+    (HasStarted (S.starts c.args.shelf.now) (S.starts c.written.new.shelf))
+    c.written.result holds c.read_file.ensures.files
+    (λ rose. rose-since old middle now c.read_file.ensures.counts.writes rose)
+    (λ once. started-since (S.starts c.args.shelf.now) (S.starts c.read_file.new.shelf) (S.starts c.written.new.shelf) once
+    c.read_file.ensures.starts)
+    c.written.ensures.done c.written.ensures.files c.written.ensures.started c.written.ensures.stopped

@@ -1,0 +1,10 @@
+pub mod Places
+pub mod Blockers
+pub mod Alternating
+pub mod Single
+pub mod Keeping
+pub mod Quiet
+pub mod Clocks
+pub mod Splitting
+pub mod Whole
+pub mod OneAnswer
