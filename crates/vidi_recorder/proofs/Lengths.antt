@@ -10,8 +10,8 @@ use Rattle.trace_code.specs.trace_model.Length.{contents_len, head_len, packet_l
 use Rattle.trace_code.specs.trace_model.Recording.{has_event}
 use Rattle.trace_code.proofs.RowBytes.{packet-most}
 use Rattle.room_ledger.specs.Gates.{row_len}
-use Rattle.room_ledger.specs.Ledger.{Ledger, claimed, Emitted}
-use Rattle.room_ledger.specs.Reservation.{event_len, need, whole}
+use Rattle.room_ledger.specs.Ledger.{Ledger, claimed, Emitted, IsReset}
+use Rattle.room_ledger.specs.Reservation.{event_len, need, reset_len, whole}
 use Rattle.room_ledger.proofs.Following.{same-len}
 
 -- a row's packet is no longer than what all channels reserve together
@@ -73,3 +73,11 @@ packet_room channels old new starts ends waiting len capacity is room sizes w c 
 -- what is in the books is no more than the store holds
 pub used_within : (old new : Ledger) (starts ends : ℕ) → Emitted old starts ends new → claimed new ≤ new.capacity → new.used ≤ old.capacity
 used_within old new starts ends is room = let cap = is.capacity in omega (arith, room, cap)
+
+-- and so has the packet of a reset
+pub reset_room : (old new : Ledger) (waiting capacity : ℕ) → IsReset old new → claimed new ≤ new.capacity → waiting ≡ old.used
+    → capacity ≡ old.capacity → waiting + reset_len ≤ capacity
+reset_room old new waiting capacity is room w c =
+    let used = is.used in
+    let cap = is.capacity in
+    omega (arith, room, used, cap, w, c)
