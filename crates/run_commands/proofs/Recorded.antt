@@ -68,6 +68,7 @@ recorded-owed design map script stalls trace files now left F b plan V W P Q (Er
 recorded-owed design map script stalls trace files now left F b plan V W P Q (Err ends.Memory) same planned why kept run (stays, none) =
     (stays ∙ same, kept false none)
 
--- at what a design, a script and a number of cycles are
-pub at-these : {S : Type 0} (P : S → ℕ → Type 0) (s t : S) (n k : ℕ) → s ≡ t → n ≡ k → P s n → P t k
-at-these {S} P s t n k q r is = subst (λ (m : ℕ). P t m) r (subst (λ (u : S). P u n) q is)
+-- at what a script, its resets and its number of cycles are
+pub at-these : {S : Type 0} (P : S → List ℕ → ℕ → Type 0) (s t : S) (x y : List ℕ) (n k : ℕ) → s ≡ t → x ≡ y → n ≡ k → P s x n → P t y k
+at-these {S} P s t x y n k q o r is =
+    subst (λ (m : ℕ). P t y m) r (subst (λ (z : List ℕ). P t z n) o (subst (λ (u : S). P u x n) q is))
