@@ -1,5 +1,5 @@
 -- The gates of a recorder behind stretches: they are fixed, and stay up until a completion.
-use Rattle.std.proofs.Common.{◌≡◌, ℕ, zero, suc, ◌+◌, ◌<◌, ◌≤◌, ◌^◌, ◌&&◌, Bool, false, not, List, [], ◌∷◌, ◌++◌, Option, Some, All, length, get_or, slice_get}
+use Rattle.std.proofs.Common.{◌≡◌, ℕ, zero, suc, ◌+◌, ◌<◌, ◌≤◌, ◌^◌, ◌&&◌, Bool, true, false, not, List, [], ◌∷◌, ◌++◌, Option, Some, All, length, get_or, slice_get}
 use Rattle.std.proofs.Common.{ap, sym, subst, ◌∙◌, append_assoc, add-one, arith}
 use Rattle.std.proofs.Math.Bool.{and-false}
 use Rattle.std.proofs.lemmas.Bool.{and_from}
@@ -40,7 +40,7 @@ each-both P (x ∷ xs) ys f h (suc u) r at = each-both P xs ys (λ v s. f (suc v
 
 pub each-behind : (P : Row → Type 0) (past : List (List Row)) (here : List Row) → All (All P) past
     → ((u : ℕ) (r : Row) → slice_get here u ≡ Some r → P r) → (u : ℕ) (r : Row) → slice_get (rows_of past ++ here) u ≡ Some r → P r
-each-behind P [] here all f = f
+each-behind P [] here all f u r at = f u r at
 each-behind P (s ∷ past) here all f u r at =
     each-both P s (rows_of past ++ here) (each-in P s (All-head (All P) s past all))
     (each-behind P past here (All-tail (All P) s past all) f) u r

@@ -22,13 +22,13 @@ use Rattle.trace_code.proofs.RowBytes.{row-length, no-row-packet}
 use Rattle.trace_code.proofs.RowsBytes.{encode-rows}
 use Rattle.room_ledger.specs.Gates.{Plan, drained, fresh_at, is_fresh, left, put_len, used_at}
 use Rattle.room_ledger.specs.Laws.{MayFollow, StandsAfter, after_drain, before_next}
-use Rattle.room_ledger.specs.Ledger.{Ledger, Emitted, IsReset, Regranted, empty, may_reset}
+use Rattle.room_ledger.specs.Ledger.{Ledger, Emitted, Regranted, empty, may_reset}
 use Rattle.room_ledger.specs.Reservation.{event_len, reset_len}
 use Rattle.room_ledger.proofs.Following.{keeps-gates, same-len, used-front}
 use Rattle.vidi_io.specs.Sink.{AppendsSome}
 use Rattle.vidi_recorder.specs.Course.{drained_after, drained_before, sizes_of}
 use Rattle.vidi_recorder.proofs.Pushing.{told-both}
-use Rattle.vidi_recorder.specs.Standing.{Cut, Going, bytes_so_far, drained_but_last, end_so_far, reset_bytes}
+use Rattle.vidi_recorder.specs.Standing.{Cut, Going, bytes_so_far, drained_but_last, end_so_far, reset_bytes, IsRestarted}
 
 -- ---- at the beginning
 pub going-first : (channels : List Channel) (plan : Plan) (first : Option (List ℕ)) (room : Ledger) (items header : List ℕ)
@@ -74,7 +74,7 @@ pub drained-within : (allowance : Option ℕ) (bytes : ℕ) → drained allowanc
 drained-within None bytes = omega arith
 drained-within (Some n) bytes = omega arith
 
-fresh-front : (plan : Plan) (rows more : List Row) (t : ℕ) → t < length rows → fresh_at plan (rows ++ more) t ≡ fresh_at plan rows t
+pub fresh-front : (plan : Plan) (rows more : List Row) (t : ℕ) → t < length rows → fresh_at plan (rows ++ more) t ≡ fresh_at plan rows t
 fresh-front plan rows more t l = ap (λ (o : Option Row). plan.resets && is_fresh o) (slice_get-append_left rows more t l)
 
 before-front : (sizes : List ℕ) (plan : Plan) (rows more : List Row) (t : ℕ) (fresh : Bool) → t ≤ length rows
@@ -214,7 +214,7 @@ pub record Cycle (channels : List Channel) (plan : Plan) (rows : List Row) (fres
   pub follows : MayFollow old fresh (before_next rows fresh) row
   pub put_row : Emitted old row.starts row.ends emitted
   pub may : next ≡ true → may_reset emitted ≡ true
-  pub put_reset : cond next (IsReset emitted mid) (mid ≡ emitted)
+  pub put_reset : IsRestarted next emitted mid
   pub put : mixed ≡ (items ++ bytes_behind channels rows row) ++ reset_behind next (rows ++ row ∷ [])
 
 -- what waits behind a row that was put
@@ -245,7 +245,7 @@ module _ (channels : List Channel) (plan : Plan) (first : Option (List ℕ)) (ro
   marks : fresh ≡ (plan.resets && row.fresh)
   marks = sym cycle.follows.mark ∙ ap (λ r. r && row.fresh) going.stands.resets
 
-  put-reset : (comes : Bool) → cond comes (IsReset emitted mid) (mid ≡ emitted) → mid.used ≡ emitted.used + cond comes reset_len 0
+  put-reset : (comes : Bool) → IsRestarted comes emitted mid → mid.used ≡ emitted.used + cond comes reset_len 0
   put-reset true is = is.used
   put-reset false same = let e = ap (λ (l : Ledger). l.used) same in omega (arith, e)
 
@@ -279,7 +279,7 @@ module _ (channels : List Channel) (plan : Plan) (first : Option (List ℕ)) (ro
   out-now : length going.bytes ≡ length (header_bytes channels) + drained_before sizes plan rows (length rows) (plan.resets && row.fresh)
   out-now = going.out ∙ ap (λ b. length (header_bytes channels) + drained_before sizes plan rows (length rows) b) marks
 
-  stands-now : (comes : Bool) → (comes ≡ true → may_reset emitted ≡ true) → cond comes (IsReset emitted mid) (mid ≡ emitted)
+  stands-now : (comes : Bool) → (comes ≡ true → may_reset emitted ≡ true) → IsRestarted comes emitted mid
       → Regranted (after_drain plan rows mid) new → StandsAfter sizes plan (rows ++ row ∷ []) comes new
   stands-now true may is again =
       (keeps-gates sizes plan).reset rows fresh row old emitted mid new going.stands cycle.follows cycle.put_row (may refl) is again

@@ -22,13 +22,13 @@ use Rattle.env_script.specs.Offered.{AreLasting}
 use Rattle.env_script.specs.Plan.{allowance_at}
 use Rattle.env_script.specs.Resets.{is_due}
 use Rattle.room_ledger.specs.Gates.{Plan, drained, fresh_at, left, permit_at}
-use Rattle.room_ledger.specs.Ledger.{Ledger, Emitted, IsReset, MayEmit, Regranted, may_reset}
+use Rattle.room_ledger.specs.Ledger.{Ledger, Emitted, MayEmit, Regranted, may_reset}
 use Rattle.room_ledger.proofs.Following.{keeps-gates, permit-front}
 use Rattle.run_stage.specs.Stretching.{all_rows, AreRuledStretches}
 use Rattle.vidi_io.specs.Sink.{AppendsSome}
 use Rattle.vidi_recorder.specs.declared.cells.Cells.{Cells}
 use Rattle.vidi_recorder.specs.Course.{permit_before, plan_of, sizes_of, turns_under, turns_within}
-use Rattle.vidi_recorder.specs.Standing.{BreaksAt, Cut, Going, IsNextFresh, StandsAt, end_so_far, reset_bytes, rule_within}
+use Rattle.vidi_recorder.specs.Standing.{BreaksAt, Cut, Going, IsNextFresh, StandsAt, end_so_far, reset_bytes, rule_within, IsRestarted}
 use Rattle.vidi_recorder.proofs.Going.{Cycle, bytes_behind, end-more, fresh-last, mixed-long, put-long, reset_behind}
 use Rattle.vidi_recorder.proofs.Turning.{IsNext, next-row}
 use Rattle.vidi_recorder.proofs.Turns.{count-few, cut-next, going-next}
@@ -52,6 +52,20 @@ due-alone (t ∷ times) k n p = refl
 -- the rows with one more
 pub more : (past : List (List Row)) (here : List Row) (row : Row) → all_rows past here ++ row ∷ [] ≡ all_rows past (here ++ row ∷ [])
 more past here row = append_assoc (rows_of past) here (row ∷ [])
+
+-- where its packet ends, and how many there are
+pub end-after : (event : Bool) (t old new : ℕ) → new ≡ cond event (t + 1) old → old ≤ t → new ≤ t + 1
+end-after true t old new e l = omega (arith, e)
+end-after false t old new e l = omega (arith, e, l)
+
+pub count-after : (event : Bool) (t old new : ℕ) → new ≡ old + cond event 1 0 → old ≤ 2 * t + 1 → new ≤ 2 * t + 2
+count-after true t old new e l = omega (arith, e, l)
+count-after false t old new e l = omega (arith, e, l)
+
+-- a reset leaves the contents' sizes
+pub kept_sizes : (comes : Bool) (old new : Ledger) → IsRestarted comes old new → new.sizes ≡ old.sizes
+kept_sizes true old new is = is.sizes
+kept_sizes false old new same = ap (λ (l : Ledger). l.sizes) same
 
 module _ (m : Map) (offer : List Row → ℕ → Offer) (stalls : Stalls) (times : List ℕ) (cycles : ℕ) (given : List Channel)
     (begun told : Option (List ℕ)) (stands_for : List Row → Type 0) (current : ℕ → Offer) (cells : Cells) (past : List (List Row))
@@ -157,7 +171,7 @@ module _ (m : Map) (offer : List Row → ℕ → Offer) (stalls : Stalls) (times
         (said : comes ≡ turns_within m.channels plan times cycles (rows ++ row ∷ [])) (can : comes ≡ true → may_reset emitted ≡ true)
         (put : first_mixed ≡ cells.store.items ++ row_bytes m.channels (t - cells.end) row)
         (ended : end ≡ cond (has_event row) (t + 1) cells.end)
-        (turned : cond comes (IsReset emitted mid) (mid ≡ emitted)) (put_reset : mixed ≡ first_mixed ++ reset_bytes comes (t + 1 - end)) where
+        (turned : IsRestarted comes emitted mid) (put_reset : mixed ≡ first_mixed ++ reset_bytes comes (t + 1 - end)) where
       end-mid : end ≡ end_of 0 0 (rows ++ row ∷ [])
       end-mid =
           ended ∙ ap (λ n. cond (has_event row) (n + 1) cells.end) (sym long)

@@ -47,7 +47,7 @@ module _ (d : Design) (m : Map) (offer : List Row → ℕ → Offer) (plan : Pla
   Behind = IsRunBehind d m (offers_after m.channels offer) (gates_behind m.channels plan)
 
   -- no row of a stretch comes behind one behind which a reset comes, so each is as *IsRun* says
-  pub strict : (past : List (List Row)) (rows : List Row) → IsPlayed d m (Rule past) rows → IsUnturned Within past rows → Behind past rows
+  abbrev pub strict : (past : List (List Row)) (rows : List Row) → IsPlayed d m (Rule past) rows → IsUnturned Within past rows → Behind past rows
   strict past rows played unturned = record {
     marked = played.marked;
     driven = played.driven;

@@ -1,5 +1,5 @@
 -- Where a recording stands between two cycles, and where a failed push has cut it off (this project's profile).
-use Rattle.std.specs.Prelude.{◌≡◌, ℕ, ◌+◌, ◌-◌, ◌^◌, ◌<◌, ◌≤◌, not, Bool, if◌then◌else◌, List, [], ◌++◌, Option, None, Some, length}
+use Rattle.std.specs.Prelude.{◌≡◌, ℕ, ◌+◌, ◌-◌, ◌^◌, ◌<◌, ◌≤◌, not, Bool, true, false, if◌then◌else◌, List, [], ◌++◌, Option, None, Some, length}
 use Rattle.std.specs.Borrow.{GName}
 use Rattle.std.specs.Io.KnownBytes.{append_known}
 use Rattle.trace_code.specs.trace_model.declared.channel.Channel.{Channel}
@@ -12,7 +12,7 @@ use Rattle.net_design.specs.declared.design.Design.{Design}
 use Rattle.net_design.specs.declared.values.Values.{Values}
 use Rattle.room_ledger.specs.Gates.{Plan, fresh_at}
 use Rattle.room_ledger.specs.Laws.{StandsAfter}
-use Rattle.room_ledger.specs.Ledger.{Ledger}
+use Rattle.room_ledger.specs.Ledger.{Ledger, IsReset}
 use Rattle.env_script.specs.chan_map.declared.pins.Map.{Map}
 use Rattle.env_script.specs.chan_map.vidi_bits.Findings.{is_nil}
 use Rattle.env_script.specs.run_model.Run.{IsStretchRow}
@@ -28,6 +28,11 @@ use Rattle.run_stage.specs.declared.ending.Ending.{Ending}
 use Rattle.run_stage.specs.declared.ending.Ending.TheVariants as endings
 use Rattle.run_stage.specs.Stretching.{all_rows, GoesOn}
 use Rattle.vidi_recorder.specs.Course.{Course, AreRunOf, IsTheRunOf, drained_before, gates_behind, sizes_of, turns_within}
+
+-- the books behind a cycle: those of a reset where one comes
+abbrev pub IsRestarted : Bool → Ledger → Ledger → Type 0
+IsRestarted true old new = IsReset old new
+IsRestarted false old new = new ≡ old
 
 -- the bytes of the packet of a reset behind this gap, where one comes; they don't depend on channels
 abbrev pub reset_bytes : Bool → ℕ → List ℕ

@@ -10,12 +10,12 @@ ghost use Rattle.trace_code.specs.trace_model.Recording.{has_event};
 ghost use Rattle.trace_code.specs.trace_model.Row.{all_widths, IsOver};
 ghost use Rattle.trace_code.specs.Encoding.{end_mark, row_bytes};
 ghost use Rattle.room_ledger.specs.Gates.{drained, left};
-ghost use Rattle.room_ledger.specs.Ledger.{may_reset, Emitted, IsReset, MayEmit, Regranted};
+ghost use Rattle.room_ledger.specs.Ledger.{may_reset, Emitted, MayEmit, Regranted};
 ghost use Rattle.env_script.specs.Offered.{offers_on, AllFit};
 ghost use Rattle.env_script.specs.Resets.{is_due};
 ghost use Rattle.vidi_io.specs.Cause.{HasCause};
 ghost use Rattle.vidi_io.specs.Sink.{AppendsSome, Frame};
-ghost use Rattle.vidi_recorder.specs.Standing.{reset_bytes};
+ghost use Rattle.vidi_recorder.specs.Standing.{reset_bytes, IsRestarted};
 
 use crate::cells::Cells;
 use env_script::{Env, gather, is_due};
@@ -93,7 +93,7 @@ pub(crate) fn restart(cycle: u32, comes: bool, cells: &mut Cells)
     requires count { cells.old.packets ≤ 2 * cycle + 2 }
     requires resets { cells.old.resets ≤ cycle + 1 }
     requires within { cells.old.room.used ≤ cells.old.room.capacity }
-    ensures room { if comes then IsReset cells.old.room cells.new.room else (cells.new.room ≡ cells.old.room) }
+    ensures room { IsRestarted comes cells.old.room cells.new.room }
     ensures store { cells.new.store ≡ buffer (cells.old.store.items ++ reset_bytes comes (cycle + 1 - cells.old.end)) cells.old.store.capacity }
     ensures count { cells.new.packets ≡ cells.old.packets + (if comes then 1 else 0) }
     ensures end { cells.new.end ≡ (if comes then cycle + 1 else cells.old.end) }
