@@ -1,15 +1,14 @@
 //! Recordings whose push fails: the run goes on while its bytes drain, so the environment stands for no row where the first push fails.
 
-ghost use Rattle.std.specs.Prelude.{◌≡◌, ◌<◌, [], false, length};
+ghost use Rattle.std.specs.Prelude.{◌≡◌, ◌<◌, length};
 ghost use Rattle.bench_run.specs.trace_model.Channel.{IsTable};
-ghost use Rattle.vidi_recorder.specs.room_ledger.Ledger.{empty};
+ghost use Rattle.bench_run.specs.env_script.Fits.{FitsChannels};
 ghost use Rattle.bench_run.specs.run_model.Building.{PortsAreNets};
 ghost use Rattle.bench_run.specs.run_model.MapOf.{IsMapOf};
-ghost use Rattle.vidi_recorder.specs.Course.{sizes_of};
 
 use bench_run::chan_map::Map;
 use bench_run::chan_monitor::{Machines, Shell};
-use bench_run::env_script::{Env, ScriptEnv, Stalls, read_script, read_stalls};
+use bench_run::env_script::{Env, Script, ScriptEnv, Stalls, read_script, read_stalls};
 use bench_run::vidi_bits::Numbers;
 use sample_designs::net_sim::Sim;
 use sample_designs::{Sample, Stage, two_channel_stage};
@@ -24,27 +23,29 @@ const TWO_SENDS: &[u8; 35] = b"cycles 6\na wait 1\na send 5\na send 6";
 /// A store that drains whole after each row.
 const ALL_DRAINS: &[u8; 11] = b"capacity 28";
 
-/// Whether a content is offered on the first channel after a recording of six cycles whose push of this number fails.
-fn offers_after<S: Shell, E: Env>(
+/// Whether a content is offered on the first channel after a recording of six cycles under a script and a plan whose push of this number fails.
+fn offers_after<S: Shell>(
     alloc: Global,
     shell: &mut S,
     map: &Map,
-    env: &mut E,
+    script: &Script,
     stalls: &Stalls,
-    room: Room,
     failing: u128,
 ) -> Option<bool>
     requires table { IsTable map.now.channels }
     requires some { 0 < length map.now.channels }
     requires mapped { S.map shell.old ≡ map.now }
-    requires channels { E.channels env.old ≡ map.now.channels }
-    requires first { E.stands_for env.old [] }
-    requires room { room ≡ empty (sizes_of map.now.channels) false stalls.now.capacity }
+    requires fits { FitsChannels map.now.channels script.now }
 {
+    let resets = script.resets();
+    let room = Room::new(alloc, map.channels(), !resets.is_empty(), stalls.capacity()).ok()?;
+    let mut env = ScriptEnv::new(alloc, script, map).ok()?;
     let mut fails = Numbers::new(alloc);
     fails.push(failing).ok()?;
     let mut sink = MemSink::new(alloc, fails);
-    match record_run(alloc, shell, map, env, stalls, room, 6, &mut sink) {
+    match record_run(
+        alloc, shell, map, &mut env, stalls, resets, room, 6, &mut sink,
+    ) {
         Err(RecordError::WriteFault) => Some(env.valid(0)),
         _ => None,
     }
@@ -62,9 +63,7 @@ fn sends_after<S: Shell>(alloc: Global, shell: &mut S, map: &Map, failing: u128)
     let Ok(stalls) = read_stalls(alloc, ALL_DRAINS) else {
         return None;
     };
-    let room = Room::new(alloc, map.channels(), false, stalls.capacity()).ok()?;
-    let mut env = ScriptEnv::new(alloc, &script, map).ok()?;
-    offers_after(alloc, shell, map, &mut env, &stalls, room, failing)
+    offers_after(alloc, shell, map, &script, &stalls, failing)
 }
 
 /// The same of monitors round a design that runs.

@@ -8,6 +8,7 @@ use Rattle.std.specs.Io.KnownBytes.{append_known}
 use Rattle.bench_run.specs.trace_model.declared.row.Row.{Row}
 use Rattle.bench_run.specs.trace_model.declared.trace.Trace.{Trace}
 use Rattle.bench_run.specs.trace_model.Recording.{trace_of}
+use Rattle.bench_run.specs.run_model.Stretches.{and_stretch}
 use Rattle.vidi_recorder.specs.trace_code.Encoding.{encode}
 use Rattle.net_design.specs.declared.design.Design.{Design}
 use Rattle.net_design.specs.declared.values.Values.{Values}
@@ -23,6 +24,8 @@ use Rattle.vidi_recorder.specs.declared.error.RecordError.{RecordError}
 use Rattle.vidi_recorder.specs.declared.error.RecordError.TheVariants as errors
 use Rattle.vidi_recorder.specs.Course.{Course, IsRunOf}
 use Rattle.vidi_recorder.specs.Recording.{EndsWith, FailsWith, IsFrontOfTheRun}
+use Rattle.vidi_recorder.specs.Standing.{Reached}
+use Rattle.vidi_recorder.proofs.Runs.{joined}
 use Rattle.run_commands.specs.Recorded.{FileEnds, FileFails}
 use Rattle.run_commands.specs.Records.{IsCutShort, IsStarted}
 
@@ -109,6 +112,13 @@ file-ends w runs stands started files now name reads before starts first (outcom
     let left = whole-left started files now name (trace_of w.bound.channels rows) reads before starts first over kept.told in
     (rows, (run, left.0, left.1), is)
 
+reached-run : (w : Course) (runs : Design → Values → Option Row → Type 0) (rows : List Row) → Reached w runs rows → IsRunOf w rows
+reached-run w runs rows x = record {
+  stretches = and_stretch x.past x.here;
+  rows_are = joined x.past x.here ∙ x.rows_are;
+  run = x.run;
+}
+
 -- what a failed write leaves
 left-short : (w : Course) (files now : Option Files) (name bytes : List ℕ) (first starts : ℕ) (rows : List Row) → IsRunOf w rows
     → IsFrontOfTheRun w rows bytes → IsHeld files now name bytes first starts ⊎ IsUnstarted files now name bytes first starts
@@ -142,7 +152,7 @@ file-fails w runs stands started files now name reads before starts first errors
     let rows = cut.rows in
     let front = cut.of_the_run lawful in
     let left = over-left started files now name cut.bytes reads before starts first over cut.told in
-    left-short w files now name cut.bytes first starts rows cut.reached.0 front left
+    left-short w files now name cut.bytes first starts rows (reached-run w runs rows cut.reached) front left
 
 -- what holds of what a call gives, and of the error that it gives
 pub later-as : (before now last : List ℕ → ℕ) (old was new end : ℕ) → last ≡ now → end ≡ new → was ≡ old

@@ -1,6 +1,5 @@
 pub mod QuietTexts
 pub mod PortNets
-mod NoResets
 pub mod Texts
 pub mod Filed
 pub mod Recorded

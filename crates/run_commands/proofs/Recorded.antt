@@ -2,6 +2,7 @@
 use Rattle.std.proofs.Common.{◌≡◌, ℕ, Bool, false, List, Option, None, Some, Result, Ok, Err, length, inl, inr, sym, ap, subst, ◌∙◌}
 use Rattle.std.specs.Prelude.{IfOk, IfErr}
 use Rattle.bench_run.specs.env_script.declared.stalls.Stalls.{Stalls}
+use Rattle.bench_run.specs.trace_model.declared.row.Row.{Row}
 use Rattle.vidi_recorder.specs.vidi_io.Shelf.{Files}
 use Rattle.vidi_recorder.specs.vidi_io.Writing.{IsKept}
 use Rattle.vidi_recorder.specs.declared.error.Outcome.{Outcome}
@@ -22,13 +23,14 @@ use Rattle.run_commands.specs.Said.{recorded_line, unstable_line}
 pub told-recorded : (w : Course) (files left : Option Files) (trace : List ℕ) (P : Bool → Type 0) (o : Outcome) (cycles : ℕ)
     (status : Status) (text : List ℕ) → cycles ≡ w.cycles → FileEnds w files trace P left o
     → IsOutcome w.bound.channels cycles o status text → RecordsRun w trace files P status text left
-told-recorded w files left trace P (outcomes.Whole packets) cycles status text same (rows, leaves, is) said = (
+told-recorded w files left trace P (outcomes.Whole packets) cycles status text same (rows, leaves, is) said =
+    let whole : length rows ≡ w.cycles = sym (ap (λ (rs : List Row). length rs) leaves.0.rows_are) ∙ leaves.0.run.3 in (
   rows,
   None,
   leaves,
   (
     said.0,
-    said.1 ∙ ap (λ (n : ℕ). recorded_line n packets) (same ∙ sym leaves.0.2) ∙ ap (λ (n : ℕ). recorded_line (length rows) n) is,
+    said.1 ∙ ap (λ (n : ℕ). recorded_line n packets) (same ∙ sym whole) ∙ ap (λ (n : ℕ). recorded_line (length rows) n) is,
   ),
 )
 told-recorded w files left trace P (outcomes.Unstable channel cycle packets) cycles status text same (rows, leaves, is) said = (
@@ -68,6 +70,7 @@ recorded-owed design map script stalls trace files now left F b plan V W P Q (Er
 recorded-owed design map script stalls trace files now left F b plan V W P Q (Err ends.Memory) same planned why kept run (stays, none) =
     (stays ∙ same, kept false none)
 
--- at what a design, a script and a number of cycles are
-pub at-these : {S : Type 0} (P : S → ℕ → Type 0) (s t : S) (n k : ℕ) → s ≡ t → n ≡ k → P s n → P t k
-at-these {S} P s t n k q r is = subst (λ (m : ℕ). P t m) r (subst (λ (u : S). P u n) q is)
+-- at what a script, its resets and its number of cycles are
+pub at-these : {S : Type 0} (P : S → List ℕ → ℕ → Type 0) (s t : S) (x y : List ℕ) (n k : ℕ) → s ≡ t → x ≡ y → n ≡ k → P s x n → P t y k
+at-these {S} P s t x y n k q o r is =
+    subst (λ (m : ℕ). P t y m) r (subst (λ (z : List ℕ). P t z n) o (subst (λ (u : S). P u x n) q is))

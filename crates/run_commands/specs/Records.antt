@@ -1,23 +1,24 @@
 -- What `record DESIGN MAP SCRIPT STALLS TRACE` owes: each step of it in its order, and what is left in TRACE.
-use Rattle.std.specs.Prelude.{◌≡◌, ℕ, ◌<◌, ◌≤◌, ◌⊎◌, Bool, false, List, [], Option, None, Some, Ok, Err, length}
+use Rattle.std.specs.Prelude.{◌≡◌, ℕ, ◌<◌, ◌≤◌, ◌⊎◌, Bool, false, not, List, [], Option, None, Some, Ok, Err, length}
+use Rattle.vidi_recorder.specs.vidi_io.vidi_bits.Findings.{is_nil}
 use Rattle.vidi_recorder.specs.vidi_io.Shelf.{Files, holding}
 use Rattle.vidi_recorder.specs.vidi_io.Writing.{IsKept}
 use Rattle.bench_run.specs.trace_model.declared.channel.Channel.{Channel}
 use Rattle.bench_run.specs.trace_model.declared.row.Row.{Row}
 use Rattle.bench_run.specs.trace_model.Recording.{trace_of}
 use Rattle.vidi_recorder.specs.trace_code.Encoding.{encode}
-use Rattle.vidi_recorder.specs.room_ledger.Reservation.{need}
+use Rattle.vidi_recorder.specs.room_ledger.Ledger.{Ledger, empty}
+use Rattle.vidi_recorder.specs.room_ledger.Reservation.{least}
 use Rattle.bench_run.specs.env_script.declared.error.StallError.TheVariants as errors
 use Rattle.bench_run.specs.env_script.declared.script.Script.{Script}
 use Rattle.bench_run.specs.env_script.declared.stalls.Stalls.{Stalls}
 use Rattle.bench_run.specs.env_script.Reasons.{read_lines}
-use Rattle.bench_run.specs.env_script.Resets.{first_reset}
 use Rattle.bench_run.specs.env_script.Stalls.{ReadsStalls}
 use Rattle.bench_run.specs.env_script.ScriptOffer.{script_offer}
 use Rattle.vidi_recorder.specs.Course.{Course, course, sizes_of, IsRunOf, IsTheRunOf}
 use Rattle.vidi_recorder.specs.Recording.{IsFrontOfTheRun}
 use Rattle.vidi_bench.specs.report_text.declared.reason.Word.TheVariants as words
-use Rattle.vidi_bench.specs.report_text.declared.reason.Reason.TheVariants.{ScriptLine, StallLine, TooSmall}
+use Rattle.vidi_bench.specs.report_text.declared.reason.Reason.TheVariants.{StallLine, TooSmall}
 use Rattle.vidi_bench.specs.declared.bench.Bench.{Bench}
 use Rattle.vidi_bench.specs.vidi_answer.declared.status.Status.{Status}
 use Rattle.vidi_bench.specs.vidi_answer.declared.status.Status.TheVariants.{Done, Unstable}
@@ -29,32 +30,30 @@ use Rattle.run_commands.specs.Said.{recorded_line, unstable_line}
 
 -- ---- what ends the command before anything is recorded
 
--- S1 of a script with resets, which are as yet recorded nowhere, at its first reset line
-abbrev pub HasResets : List ℕ → Script → Ending
-HasResets bytes script status said = (line : ℕ) × ¬ (script.resets ≡ []) × (first_reset 1 (read_lines bytes) ≡ Some line)
-    × IsRefusal words.Script (ScriptLine line) status said
-
 -- P1
 abbrev pub IsNoPlan : List ℕ → Ending
 IsNoPlan bytes status said =
     (line : ℕ) × ReadsStalls (read_lines bytes) (Err (errors.Line line)) × IsRefusal words.Stalls (StallLine line) status said
 
--- the store holds fewer bytes than all channels need together
-abbrev pub IsTooSmall : List Channel → Stalls → Ending
-IsTooSmall channels plan status said = (plan.capacity < need (sizes_of channels))
-    × IsRefusal words.Stalls (TooSmall (need (sizes_of channels)) plan.capacity) status said
+-- the bytes that a store for a script on these channels has at least: what all channels need together, and with resets the room of a permit
+abbrev pub least_for : List Channel → Script → ℕ
+least_for channels script = least (sizes_of channels) (not (is_nil script.resets))
 
--- a plan of stalls, and a store of its capacity for these channels
-abbrev pub RefusedStore : List ℕ → List Channel → Ending
-RefusedStore stalls channels = Step (IsNoPlan stalls) (λ plan. ReadsStalls (read_lines stalls) (Ok plan)) (IsTooSmall channels)
+-- the store holds fewer
+abbrev pub IsTooSmall : List Channel → Script → Stalls → Ending
+IsTooSmall channels script plan status said = (plan.capacity < least_for channels script)
+    × IsRefusal words.Stalls (TooSmall (least_for channels script) plan.capacity) status said
 
-abbrev pub RefusedPlan : List ℕ → List ℕ → Bench → Ending
-RefusedPlan script stalls b = Step (HasResets script b.script) (λ (none : Unit {0}). b.script.resets ≡ [])
-    (λ none. RefusedStore stalls b.device.map.channels)
+-- a plan of stalls, and a store of its capacity for these channels and this script
+abbrev pub RefusedStore : List ℕ → List Channel → Script → Ending
+RefusedStore stalls channels script = Step (IsNoPlan stalls) (λ plan. ReadsStalls (read_lines stalls) (Ok plan)) (IsTooSmall channels script)
+
+abbrev pub RefusedPlan : List ℕ → Bench → Ending
+RefusedPlan stalls b = RefusedStore stalls b.device.map.channels b.script
 
 -- four texts
 abbrev pub RefusedPlanned : List ℕ → List ℕ → List ℕ → List ℕ → Ending
-RefusedPlanned design map script stalls = Step (RefusedTexts design map script) (IsBench design map script) (RefusedPlan script stalls)
+RefusedPlanned design map script stalls = Step (RefusedTexts design map script) (IsBench design map script) (RefusedPlan stalls)
 
 -- four files, in the order of the words
 abbrev pub IsUnrecorded : List ℕ → List ℕ → List ℕ → List ℕ → Option Files → (List ℕ → Type 0) → Ending
@@ -63,7 +62,11 @@ IsUnrecorded design map script stalls files ReadFailed = ReadTexts design map sc
 
 -- ---- what is recorded
 
--- the four files are read and accepted: they say this design with its map, this script without resets and this plan
+-- a new store of the plan's capacity, for these channels and this script
+abbrev pub IsNewRoom : List Channel → Script → Stalls → Ledger → Type 0
+IsNewRoom channels script plan room = room ≡ empty (sizes_of channels) (not (is_nil script.resets)) plan.capacity
+
+-- the four files are read and accepted: they say this design with its map, this script and this plan
 pub record IsPlanned (design map script stalls : List ℕ) (files : Option Files) (b : Bench) (plan : Stalls) : Type 0 where
   pub design_text : List ℕ
   pub map_text : List ℕ
@@ -74,13 +77,12 @@ pub record IsPlanned (design map script stalls : List ℕ) (files : Option Files
   pub script_read : IsRead text_limit script files script_text
   pub stalls_read : IsRead text_limit stalls files stalls_text
   pub bench : IsBench design_text map_text script_text b
-  pub no_resets : b.script.resets ≡ []
   pub planned : ReadsStalls (read_lines stalls_text) (Ok plan)
-  pub holds : need (sizes_of b.device.map.channels) ≤ plan.capacity
+  pub holds : least_for b.device.map.channels b.script ≤ plan.capacity
 
--- of that design and map, with what the script offers and the gates of the plan, for the script's cycles
+-- of that design and map, with what the script offers, its resets and the gates of the plan, for the script's cycles
 abbrev pub course_of : Bench → Stalls → Course
-course_of b plan = course b.device.design b.device.map (script_offer b.script) plan b.script.cycles
+course_of b plan = course b.device.design b.device.map (script_offer b.script) plan b.script.resets b.script.cycles
 
 -- the run has all its cycles, or ends before the row of this cycle, which is unstable on this channel
 abbrev pub IsRecorded : List Channel → List Row → Option ℕ → Ending

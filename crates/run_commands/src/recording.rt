@@ -1,7 +1,7 @@
 //! The command `record`.
 
 ghost use Rattle.vidi_bench.specs.vidi_answer.declared.line.TheConstants.{LINE_BYTES};
-ghost use Rattle.std.specs.Prelude.{◌≡◌, ◌≤◌, [], false, Option, Ok, IfOk, IfErr, length};
+ghost use Rattle.std.specs.Prelude.{◌≡◌, ◌≤◌, [], not, Option, Ok, IfOk, IfErr, length};
 ghost use Rattle.bench_run.specs.trace_model.declared.row.Row.{Row as OneRow};
 ghost use Rattle.bench_run.specs.trace_model.Channel.{IsTable};
 ghost use Rattle.net_design.specs.declared.values.Values.{Values};
@@ -12,8 +12,8 @@ ghost use Rattle.bench_run.specs.trace_model.declared.packet.TheConstants.{MOST_
 ghost use Rattle.bench_run.specs.env_script.Fits.{FitsChannels};
 ghost use Rattle.bench_run.specs.env_script.ScriptOffer.{script_offer};
 ghost use Rattle.vidi_recorder.specs.room_ledger.Ledger.{empty};
-ghost use Rattle.vidi_recorder.specs.room_ledger.Reservation.{need};
-ghost use Rattle.bench_run.specs.env_script.Reads.{ReadsScript};
+ghost use Rattle.bench_run.specs.env_script.Resets.{AreTimes};
+ghost use Rattle.vidi_recorder.specs.vidi_io.vidi_bits.Findings.{is_nil};
 ghost use Rattle.bench_run.specs.env_script.Reasons.{read_lines};
 ghost use Rattle.bench_run.specs.env_script.Stalls.{ReadsStalls};
 ghost use Rattle.vidi_recorder.specs.vidi_io.Cause.{Rose};
@@ -26,16 +26,15 @@ ghost use Rattle.vidi_bench.specs.AnswerText.{text_of};
 ghost use Rattle.vidi_bench.specs.Benches.{AreWithin, IsBench, IsPlayable};
 ghost use Rattle.vidi_bench.specs.Design.{text_limit};
 ghost use Rattle.vidi_bench.specs.Ended.{EndsWith, IsStopped, Owes};
-ghost use Rattle.run_commands.specs.Records.{course_of, HasResets, IsCutShort, IsNoPlan, IsPlanned, IsTooSmall, IsUnrecorded, RefusedStore};
+ghost use Rattle.run_commands.specs.Records.{course_of, least_for, IsCutShort, IsNewRoom, IsNoPlan, IsPlanned, IsTooSmall, IsUnrecorded, RefusedStore};
 ghost use Rattle.run_commands.specs.Records.{Records, RecordsRun, RefusedPlanned, StopsRecording};
 ghost use Rattle.run_commands.specs.Recorded.{FileEnds, FileFails, IsOutcome};
 
 use bench_run::chan_map::Map;
 use bench_run::chan_monitor::{Machines, Shell};
-use bench_run::env_script::{
-    Env, Script, ScriptEnv, StallError, Stalls, first_reset_line, read_stalls,
-};
+use bench_run::env_script::{Env, Script, ScriptEnv, StallError, Stalls, read_stalls};
 use bench_run::trace_model::Channels;
+use bench_run::vidi_bits::Numbers;
 use net_design::{Block, Design};
 use net_sim::Sim;
 use net_sim::net_order::Order;
@@ -89,7 +88,7 @@ fn plan_recording<S: Shelf>(
 ) -> Result<Planned, Ended>
     ensures planned { IfOk result (λ p. IsPlanned design.now map.now script.now stalls.now (S.files shelf.old) p.bench p.plan) }
     ensures playable { IfOk result (λ p. IsPlayable p.bench) }
-    ensures room { IfOk result (λ p. p.room ≡ empty (sizes_of p.bench.device.map.channels) false p.plan.capacity) }
+    ensures room { IfOk result (λ p. IsNewRoom p.bench.device.map.channels p.bench.script p.plan p.room) }
     ensures refused { IfErr result (EndsWith (IsUnrecorded design.now map.now script.now stalls.now (S.files shelf.old)
         (λ name. Rose (S.read_faults shelf.old name) (S.read_faults shelf.new name)))) }
     ensures files { S.files shelf.new ≡ S.files shelf.old }
@@ -106,51 +105,34 @@ pub fn plan_texts(alloc: Global, texts: &Texts, stalls: &[u8]) -> Result<Planned
     requires within { AreWithin texts.now }
     requires stalls { length stalls.now ≤ text_limit }
     ensures bench { IfOk result (λ p. IsBench texts.now.design texts.now.map texts.now.script p.bench) }
-    ensures no_resets { IfOk result (λ p. p.bench.script.resets ≡ []) }
     ensures planned { IfOk result (λ p. ReadsStalls (read_lines stalls.now) (Ok p.plan)) }
-    ensures holds { IfOk result (λ p. need (sizes_of p.bench.device.map.channels) ≤ p.plan.capacity) }
+    ensures holds { IfOk result (λ p. least_for p.bench.device.map.channels p.bench.script ≤ p.plan.capacity) }
     ensures playable { IfOk result (λ p. IsPlayable p.bench) }
-    ensures room { IfOk result (λ p. p.room ≡ empty (sizes_of p.bench.device.map.channels) false p.plan.capacity) }
+    ensures room { IfOk result (λ p. IsNewRoom p.bench.device.map.channels p.bench.script p.plan p.room) }
     ensures refused { IfErr result (EndsWith (RefusedPlanned texts.now.design texts.now.map texts.now.script stalls.now)) }
 {
     let bench = bench_of(alloc, texts)?;
-    without_resets(alloc, &bench, texts.script.as_slice())?;
-    let store = store_of(alloc, &bench.device.map.channels, stalls)?;
+    let store = store_of(alloc, &bench.device.map.channels, &bench.script, stalls)?;
     let (plan, room) = store;
     Ok(Planned { bench, plan, room })
 }
 
-/// Whether the script of this text has no resets, which aren't recorded yet.
-fn without_resets(alloc: Global, bench: &Bench, script: &[u8]) -> Result<(), Ended>
-    requires says { ReadsScript bench.now.device.map.channels (read_lines script.now) (Ok bench.now.script) }
-    requires within { length script.now ≤ text_limit }
-    ensures none { IfOk result (λ _. bench.now.script.resets ≡ []) }
-    ensures refused { IfErr result (EndsWith (HasResets script.now bench.now.script)) }
-{
-    if bench.script.resets.is_empty() {
-        return Ok(());
-    }
-    match first_reset_line(alloc, script)? {
-        Some(line) => Err(Ended::Refused(refused(
-            alloc,
-            Word::Script,
-            Reason::ScriptLine { line },
-        )?)),
-        None => Ok(()),
-    }
-}
-
-/// The plan of a text, and a store for it and these channels.
-fn store_of(alloc: Global, channels: &Channels, stalls: &[u8]) -> Result<(Stalls, Room), Ended>
+/// The plan of a text, and a store for it, these channels and this script.
+fn store_of(
+    alloc: Global,
+    channels: &Channels,
+    script: &Script,
+    stalls: &[u8],
+) -> Result<(Stalls, Room), Ended>
     requires table { IsTable channels.now }
     requires stalls { length stalls.now ≤ text_limit }
     ensures planned { IfOk result (λ s. ReadsStalls (read_lines stalls.now) (Ok s.0)) }
-    ensures holds { IfOk result (λ s. need (sizes_of channels.now) ≤ s.0.capacity) }
-    ensures room { IfOk result (λ s. s.1 ≡ empty (sizes_of channels.now) false s.0.capacity) }
-    ensures refused { IfErr result (EndsWith (RefusedStore stalls.now channels.now)) }
+    ensures holds { IfOk result (λ s. least_for channels.now script.now ≤ s.0.capacity) }
+    ensures room { IfOk result (λ s. IsNewRoom channels.now script.now s.0 s.1) }
+    ensures refused { IfErr result (EndsWith (RefusedStore stalls.now channels.now script.now)) }
 {
     let plan = plan_of(alloc, stalls)?;
-    let room = room_for(alloc, channels, &plan)?;
+    let room = room_for(alloc, channels, script, &plan)?;
     Ok((plan, room))
 }
 
@@ -171,14 +153,20 @@ fn plan_of(alloc: Global, text: &[u8]) -> Result<Stalls, Ended>
     }
 }
 
-/// The store of a plan for these channels.
-fn room_for(alloc: Global, channels: &Channels, plan: &Stalls) -> Result<Room, Ended>
+/// The store of a plan for these channels and this script, whose resets want a permit.
+fn room_for(
+    alloc: Global,
+    channels: &Channels,
+    script: &Script,
+    plan: &Stalls,
+) -> Result<Room, Ended>
     requires { IsTable channels.now }
-    ensures room { IfOk result (λ room. room ≡ empty (sizes_of channels.now) false plan.now.capacity) }
-    ensures holds { IfOk result (λ room. need (sizes_of channels.now) ≤ plan.now.capacity) }
-    ensures refused { IfErr result (EndsWith (IsTooSmall channels.now plan.now)) }
+    ensures room { IfOk result (IsNewRoom channels.now script.now plan.now) }
+    ensures holds { IfOk result (λ room. least_for channels.now script.now ≤ plan.now.capacity) }
+    ensures refused { IfErr result (EndsWith (IsTooSmall channels.now script.now plan.now)) }
 {
-    match Room::new(alloc, channels, false, plan.capacity()) {
+    let resets = !script.resets().is_empty();
+    match Room::new(alloc, channels, resets, plan.capacity()) {
         Ok(room) => Ok(room),
         Err(RoomError::TooSmall { need, given }) => Err(Ended::Refused(refused(
             alloc,
@@ -200,7 +188,7 @@ fn recorded<S: Shelf>(
     shelf: &mut S,
 ) -> Result<Answer, Ended>
     requires playable { IsPlayable planned.bench }
-    requires room { planned.room ≡ empty (sizes_of planned.bench.device.map.channels) false planned.plan.capacity }
+    requires room { IsNewRoom planned.bench.device.map.channels planned.bench.script planned.plan planned.room }
     ensures done { IfOk result (λ a. RecordsRun (course_of planned.bench planned.plan) trace.now (S.files shelf.old)
         (HasStarted (S.starts shelf.old) (S.starts shelf.new)) a.status (text_of a.text) (S.files shelf.new)) }
     ensures stopped { IfErr result (IsStopped (IsCutShort (course_of planned.bench planned.plan) (S.files shelf.old) trace.now
@@ -221,7 +209,7 @@ fn recorded_with<S: Shelf>(
     shelf: &mut S,
 ) -> Result<Answer, Ended>
     requires playable { IsPlayable planned.bench }
-    requires room { planned.room ≡ empty (sizes_of planned.bench.device.map.channels) false planned.plan.capacity }
+    requires room { IsNewRoom planned.bench.device.map.channels planned.bench.script planned.plan planned.room }
     requires empty { shown line ≡ [] }
     requires line { left line ≡ LINE_BYTES }
     ensures done { IfOk result (λ a. RecordsRun (course_of planned.bench planned.plan) trace.now (S.files shelf.old)
@@ -259,10 +247,10 @@ pub fn record_sim<S: Shelf>(
     requires order { IsOrder design order.drivers }
     requires mapped { IsMapOf design map.now }
     requires fits { FitsChannels map.now.channels script.now }
-    requires room { room ≡ empty (sizes_of map.now.channels) false plan.now.capacity }
-    ensures ended { IfOk result (FileEnds (course design map.now (script_offer script.now) plan.now script.now.cycles)
+    requires room { IsNewRoom map.now.channels script.now plan.now room }
+    ensures ended { IfOk result (FileEnds (course design map.now (script_offer script.now) plan.now script.now.resets script.now.cycles)
         (S.files shelf.old) trace.now (HasStarted (S.starts shelf.old) (S.starts shelf.new)) (S.files shelf.new)) }
-    ensures failed { IfErr result (FileFails (course design map.now (script_offer script.now) plan.now script.now.cycles)
+    ensures failed { IfErr result (FileFails (course design map.now (script_offer script.now) plan.now script.now.resets script.now.cycles)
         (S.files shelf.old) trace.now (HasStarted (S.starts shelf.old) (S.starts shelf.new)) (S.files shelf.new)) }
     ensures cause { IfErr result (FailsFor (S.write_faults shelf.old) (S.write_faults shelf.new)) }
     ensures counts { Later (S.read_faults shelf.old) (S.read_faults shelf.new) (S.write_faults shelf.old) (S.write_faults shelf.new) }
@@ -286,10 +274,10 @@ fn record_block<B: Block + Drop, S: Shelf>(
     requires lawful { IsLawful (B.design block) }
     requires mapped { IsMapOf (B.design block) map.now }
     requires fits { FitsChannels map.now.channels script.now }
-    requires room { room ≡ empty (sizes_of map.now.channels) false plan.now.capacity }
-    ensures ended { IfOk result (FileEnds (course (B.design block) map.now (script_offer script.now) plan.now script.now.cycles)
+    requires room { IsNewRoom map.now.channels script.now plan.now room }
+    ensures ended { IfOk result (FileEnds (course (B.design block) map.now (script_offer script.now) plan.now script.now.resets script.now.cycles)
         (S.files shelf.old) trace.now (HasStarted (S.starts shelf.old) (S.starts shelf.new)) (S.files shelf.new)) }
-    ensures failed { IfErr result (FileFails (course (B.design block) map.now (script_offer script.now) plan.now script.now.cycles)
+    ensures failed { IfErr result (FileFails (course (B.design block) map.now (script_offer script.now) plan.now script.now.resets script.now.cycles)
         (S.files shelf.old) trace.now (HasStarted (S.starts shelf.old) (S.starts shelf.new)) (S.files shelf.new)) }
     ensures cause { IfErr result (FailsFor (S.write_faults shelf.old) (S.write_faults shelf.new)) }
     ensures counts { Later (S.read_faults shelf.old) (S.read_faults shelf.new) (S.write_faults shelf.old) (S.write_faults shelf.new) }
@@ -302,6 +290,7 @@ fn record_block<B: Block + Drop, S: Shelf>(
         map,
         &mut env,
         plan,
+        script.resets(),
         room,
         script.cycles(),
         trace,
@@ -316,6 +305,7 @@ fn record_file<S: Shell, E: Env, F: Shelf>(
     map: &Map,
     env: &mut E,
     plan: &Stalls,
+    resets: &Numbers,
     room: Room,
     cycles: u32,
     trace: &str,
@@ -325,20 +315,23 @@ fn record_file<S: Shell, E: Env, F: Shelf>(
     requires mapped { S.map shell.old ≡ map.now }
     requires channels { E.channels env.old ≡ map.now.channels }
     requires first { E.stands_for env.old [] }
-    requires room { room ≡ empty (sizes_of map.now.channels) false plan.now.capacity }
+    requires room { room ≡ empty (sizes_of map.now.channels) (not (is_nil resets.now)) plan.now.capacity }
+    requires times { AreTimes resets.now }
     requires some { 1 ≤ cycles }
     requires few { cycles ≤ MOST_CYCLES }
     ensures ended { IfOk result (λ outcome. (d : Design) (s : Values) (before : Option OneRow) → S.runs shell.old d s before
-        → FileEnds (course d map.now (E.offer (E.plan env.old)) plan.now cycles) (F.files shelf.old) trace.now
+        → FileEnds (course d map.now (E.offer (E.plan env.old)) plan.now resets.now cycles) (F.files shelf.old) trace.now
         (HasStarted (F.starts shelf.old) (F.starts shelf.new)) (F.files shelf.new) outcome) }
     ensures failed { IfErr result (λ e. (d : Design) (s : Values) (before : Option OneRow) → S.runs shell.old d s before → IsLawful d
-        → FileFails (course d map.now (E.offer (E.plan env.old)) plan.now cycles) (F.files shelf.old) trace.now
+        → FileFails (course d map.now (E.offer (E.plan env.old)) plan.now resets.now cycles) (F.files shelf.old) trace.now
         (HasStarted (F.starts shelf.old) (F.starts shelf.new)) (F.files shelf.new) e) }
     ensures cause { IfErr result (FailsFor (F.write_faults shelf.old) (F.write_faults shelf.new)) }
     ensures counts { Later (F.read_faults shelf.old) (F.read_faults shelf.new) (F.write_faults shelf.old) (F.write_faults shelf.new) }
 {
     let mut sink = ShelfSink::new(shelf, trace);
-    record_run(alloc, shell, map, env, plan, room, cycles, &mut sink)
+    record_run(
+        alloc, shell, map, env, plan, resets, room, cycles, &mut sink,
+    )
 }
 
 /// The answer of an outcome, with its line in memory that was taken before.

@@ -1,5 +1,5 @@
 -- From a recording in memory, and a replay of its trace, to the answer of `sample`.
-use Rattle.std.proofs.Common.{◌≡◌, ◌≤◌, ℕ, Bool, List, [], Option, None, Some, Result, Ok, Err, cond, inr, refl, sym, ap, subst, ◌∙◌}
+use Rattle.std.proofs.Common.{◌≡◌, ◌≤◌, ℕ, Bool, List, Option, None, Some, Result, Ok, Err, cond, inr, refl, sym, ap, subst, ◌∙◌}
 use Rattle.std.specs.Prelude.{IfOk, IsSome, IsSomeAnd, codes}
 use Rattle.std.specs.Cmp.Lexicographic.{nat_list_cmp_total}
 use Rattle.std.specs.FinMap.{get, insert, get-insert}
@@ -7,7 +7,6 @@ use Rattle.std.proofs.lemmas.Map.Text.{is_eq-slice_cmp}
 use Rattle.sample_gen.proofs.vidi_bits_lemmas.Lists.{bytes_eq-self, some_same}
 use Rattle.sample_gen.specs.trace_model.Recording.{trace_of}
 use Rattle.replay_command.specs.trace_code.Encoding.{encode}
-use Rattle.sample_gen.specs.room_ledger.Reservation.{need}
 use Rattle.sample_gen.specs.env_script.declared.stalls.Stalls.{Stalls}
 use Rattle.sample_gen.specs.env_script.Reasons.{read_lines}
 use Rattle.sample_gen.specs.env_script.Stalls.{ReadsStalls}
@@ -16,12 +15,12 @@ use Rattle.replay_command.specs.vidi_io.Entries.{files_of}
 use Rattle.replay_command.specs.vidi_io.MemShelf.{entries}
 use Rattle.replay_command.specs.vidi_io.Shelf.{Files, holding}
 use Rattle.run_commands.specs.vidi_recorder.declared.error.Outcome.TheVariants as outcomes
-use Rattle.run_commands.specs.vidi_recorder.Course.{Course, sizes_of}
+use Rattle.run_commands.specs.vidi_recorder.Course.{Course}
 use Rattle.replay_command.specs.vidi_bench.vidi_answer.declared.answer.Ended.{Ended}
 use Rattle.replay_command.specs.vidi_bench.declared.bench.Bench.{Bench}
 use Rattle.replay_command.specs.vidi_bench.Benches.{IsBench}
 use Rattle.run_commands.specs.Recorded.{FileEnds}
-use Rattle.run_commands.specs.Records.{course_of}
+use Rattle.run_commands.specs.Records.{course_of, least_for}
 use Rattle.sample_command.specs.Sampled.{trace_on, HasTrace, IsTraceOf, IsUnstable}
 use Rattle.sample_command.specs.Samples.{IsTraced, IsUntraced}
 use Rattle.replay_command.proofs.vidi_bench_lemmas.Chain.{Implies}
@@ -58,15 +57,15 @@ whole-traced w m shelf P packets (rows, (run, held, started), is) =
     has-held (IsTraceOf w) shelf m (encode (trace_of w.bound.channels rows)) held (rows, run, refl)
 
 -- ---- of four texts
-module _ (design map script stalls : List ℕ) (b : Bench) (plan : Stalls) (bench : IsBench design map script b) (none : b.script.resets ≡ [])
-    (planned : ReadsStalls (read_lines stalls) (Ok plan)) (holds : need (sizes_of b.device.map.channels) ≤ plan.capacity) where
+module _ (design map script stalls : List ℕ) (b : Bench) (plan : Stalls) (bench : IsBench design map script b)
+    (planned : ReadsStalls (read_lines stalls) (Ok plan)) (holds : least_for b.device.map.channels b.script ≤ plan.capacity) where
   traced-texts : (bytes : List ℕ) → IsTraceOf (course_of b plan) bytes → IsTraced design map script stalls bytes
   traced-texts bytes (rows, run, same) =
-      (b, plan, rows, record { bench = bench; no_resets = none; planned = planned; holds = holds; run = run }, same)
+      (b, plan, rows, record { bench = bench; planned = planned; holds = holds; run = run }, same)
 
   pub unstable-texts : Implies (IsUnstable (course_of b plan)) (IsUntraced design map script stalls)
   unstable-texts a x (rows, channel, run, said) =
-      inr (b, plan, rows, channel, record { bench = bench; no_resets = none; planned = planned; holds = holds; run = run }, said)
+      inr (b, plan, rows, channel, record { bench = bench; planned = planned; holds = holds; run = run }, said)
 
   pub traced-all : (r : Result MemShelf Ended) → IfOk r (HasTrace (IsTraceOf (course_of b plan)))
       → IfOk r (HasTrace (IsTraced design map script stalls))

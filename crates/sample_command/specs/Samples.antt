@@ -6,12 +6,11 @@ use Rattle.sample_gen.specs.trace_model.Recording.{trace_of}
 use Rattle.replay_command.specs.trace_code.Encoding.{Encodes, encode}
 use Rattle.replay_command.specs.trace_code.NoReset.{HasNoReset}
 use Rattle.replay_command.specs.trace_compare.Findings.{findings}
-use Rattle.sample_gen.specs.room_ledger.Reservation.{need}
 use Rattle.sample_gen.specs.trace_model.declared.packet.TheConstants.{MOST_CYCLES}
 use Rattle.sample_gen.specs.env_script.declared.stalls.Stalls.{Stalls}
 use Rattle.sample_gen.specs.env_script.Reasons.{read_lines}
 use Rattle.sample_gen.specs.env_script.Stalls.{ReadsStalls}
-use Rattle.run_commands.specs.vidi_recorder.Course.{sizes_of, IsTheRunOf}
+use Rattle.run_commands.specs.vidi_recorder.Course.{IsTheRunOf}
 use Rattle.replay_command.specs.replay_run.declared.outcome.ReplayOutcome.{ReplayOutcome}
 use Rattle.replay_command.specs.replay_run.declared.outcome.ReplayOutcome.TheVariants as outcomes
 use Rattle.sample_gen.specs.declared.files.Sample.{Sample}
@@ -22,7 +21,7 @@ use Rattle.sample_command.specs.declared.sampling.Figures.{Figures}
 use Rattle.replay_command.specs.vidi_bench.vidi_answer.declared.status.Status.TheVariants.{Done, Diverged}
 use Rattle.replay_command.specs.vidi_bench.Benches.{IsBench}
 use Rattle.replay_command.specs.vidi_bench.Devices.{IsDevice}
-use Rattle.run_commands.specs.Records.{course_of, IsRecorded, RefusedPlanned}
+use Rattle.run_commands.specs.Records.{course_of, least_for, IsRecorded, RefusedPlanned}
 use Rattle.replay_command.specs.Replays.{IsReplaySaid, IsTheReplay, RefusedReplay}
 use Rattle.sample_command.specs.Said.{diverged_text, sample_line}
 use Rattle.replay_command.specs.vidi_bench.Steps.{Ending, IsSaid, Step}
@@ -33,12 +32,11 @@ sample_cycles = MOST_CYCLES
 
 -- ---- recording, as `record` does
 
--- the texts say this design with its map, this script without resets and this plan, and these rows are their run, which ends so
+-- the texts say this design with its map, this script and this plan, and these rows are their run, which ends so
 pub record IsRunOfTexts (design map script stalls : List ℕ) (b : Bench) (plan : Stalls) (rows : List Row) (stop : Option ℕ) : Type 0 where
   pub bench : IsBench design map script b
-  pub no_resets : b.script.resets ≡ []
   pub planned : ReadsStalls (read_lines stalls) (Ok plan)
-  pub holds : need (sizes_of b.device.map.channels) ≤ plan.capacity
+  pub holds : least_for b.device.map.channels b.script ≤ plan.capacity
   pub run : IsTheRunOf (course_of b plan) rows stop
 
 -- what ends the command before anything is replayed: the first reason for which the texts are refused, or a row that is unstable

@@ -1,18 +1,16 @@
 //! The command `sample`.
 
-ghost use Rattle.std.specs.Prelude.{◌≡◌, ◌≤◌, ◌++◌, false, Some, IsSome, IfOk, IfErr, OnOk, length};
+ghost use Rattle.std.specs.Prelude.{◌≡◌, ◌≤◌, ◌++◌, Some, IsSome, IfOk, IfErr, OnOk, length};
 ghost use Rattle.sample_gen.specs.trace_model.declared.trace.Trace.{Trace as OneTrace};
 ghost use Rattle.replay_command.specs.trace_code.Encoding.{Encodes, HasEncoding};
 ghost use Rattle.replay_command.specs.trace_code.NoReset.{HasNoReset};
-ghost use Rattle.sample_gen.specs.room_ledger.Ledger.{empty};
 ghost use Rattle.sample_gen.specs.declared.generate.TheConstants.{LARGEST};
-ghost use Rattle.run_commands.specs.vidi_recorder.Course.{sizes_of};
 ghost use Rattle.replay_command.specs.vidi_bench.AnswerText.{text_of};
 ghost use Rattle.replay_command.specs.vidi_bench.Benches.{AreWithin, IsPlayable};
 ghost use Rattle.replay_command.specs.vidi_bench.Design.{text_limit};
 ghost use Rattle.replay_command.specs.vidi_bench.Devices.{IsRunnable};
 ghost use Rattle.replay_command.specs.vidi_bench.Ended.{EndsWith, IsAnswered};
-ghost use Rattle.run_commands.specs.Records.{course_of};
+ghost use Rattle.run_commands.specs.Records.{course_of, IsNewRoom};
 ghost use Rattle.sample_command.specs.Said as said;
 ghost use Rattle.sample_command.specs.Sampled as on_shelf;
 ghost use Rattle.sample_command.specs.Sampled.{AreShort, HasTrace, IsTraceOf, IsUnstable};
@@ -98,7 +96,7 @@ fn traced(alloc: Global, texts: &Texts, stalls: &[u8]) -> Result<MemShelf, Ended
 /// Records the run on a shelf in memory.
 fn recorded(alloc: Global, planned: Planned) -> Result<MemShelf, Ended>
     requires playable { IsPlayable planned.bench }
-    requires room { planned.room ≡ empty (sizes_of planned.bench.device.map.channels) false planned.plan.capacity }
+    requires room { IsNewRoom planned.bench.device.map.channels planned.bench.script planned.plan planned.room }
     ensures traced { IfOk result (HasTrace (IsTraceOf (course_of planned.bench planned.plan))) }
     ensures refused { IfErr result (EndsWith (IsUnstable (course_of planned.bench planned.plan))) }
 {

@@ -45,5 +45,5 @@ same_ends w single p q f g old one other (Unstable i t m) (Unstable j u n) x y =
     (rw (channel, cycle, packets) refl, told.1)
 
 pub records_alike : (p q : Design → Values → Option Row → Type 0) (f g : List Row → Type 0) → RecordsAlike p q f g
-records_alike p q f g d m offer stalls cycles ready lasting old one other a b x y =
-    same_ends (course d m offer stalls cycles) (one-recorded d m offer stalls cycles ready lasting).1 p q f g old one other a b x y
+records_alike p q f g d m offer stalls times cycles ready lasting old one other a b x y =
+    same_ends (course d m offer stalls times cycles) (one-recorded d m offer stalls times cycles ready lasting).1 p q f g old one other a b x y

@@ -13,11 +13,13 @@ use Rattle.vidi_recorder.specs.Course.{course}
 use Rattle.vidi_recorder.specs.Recording.{EndsWith}
 
 -- Two recordings that come to their end, one through each of two shells, answer the same, and their sinks tell the same, where both run the
--- same design, in the same environment, under the same plan of stalls, for as many cycles. The shells run what is given, and the environments stand for
+-- same design, in the same environment, under the same plan of stalls, with resets at the same times, for as many cycles. The shells run what is given, and the environments stand for
 -- what is given.
 abbrev pub RecordsAlike : (Design → Values → Option Row → Type 0) → (Design → Values → Option Row → Type 0) → (List Row → Type 0)
     → (List Row → Type 0) → Type 0
-RecordsAlike p q f g = (d : Design) (m : Map) (offer : List Row → ℕ → Offer) (stalls : Stalls) (cycles : ℕ) → IsReady d m
+RecordsAlike p q f g = (d : Design) (m : Map) (offer : List Row → ℕ → Offer) (stalls : Stalls) (times : List ℕ) (cycles : ℕ)
+    → IsReady d m
     → AreLasting m.channels offer → (old one other : Option (List ℕ)) (a b : Outcome)
-    → EndsWith (course d m offer stalls cycles) p f old one a → EndsWith (course d m offer stalls cycles) q g old other b
+    → EndsWith (course d m offer stalls times cycles) p f old one a
+    → EndsWith (course d m offer stalls times cycles) q g old other b
     → (a ≡ b) × (one ≡ other)

@@ -1,11 +1,12 @@
 //! Plans of recordings, and recordings by a shell.
 
-ghost use Rattle.std.specs.Prelude.{◌≡◌, ◌≤◌, [], false, IfOk, length};
+ghost use Rattle.std.specs.Prelude.{◌≡◌, ◌≤◌, [], not, IfOk, length};
 ghost use Rattle.shim_cosim.specs.trace_model.Channel.{IsTable};
 ghost use Rattle.shim_cosim.specs.trace_model.declared.packet.TheConstants.{MOST_CYCLES};
 ghost use Rattle.shim_cosim.specs.env_script.Fits.{FitsChannels};
 ghost use Rattle.shim_cosim.specs.room_ledger.Ledger.{empty};
 ghost use Rattle.shim_cosim.specs.vidi_recorder.Course.{sizes_of};
+ghost use Rattle.shim_cosim.specs.chan_map.vidi_bits.Findings.{is_nil};
 
 use crate::ended::Ended;
 use crate::texts::bytes_in;
@@ -25,18 +26,6 @@ pub struct Plan {
     pub stalls: Stalls,
 }
 
-/// The script of these lines, over a map's channels, where it has no reset.
-fn script_of(alloc: Global, lines: &[u8], map: &Map) -> Result<Script, Ended>
-    requires { length lines.now ≤ 4194304 }
-    ensures { IfOk result (FitsChannels map.now.channels) }
-{
-    match read_script(alloc, lines, map) {
-        Ok(script) if script.resets().is_empty() => Ok(script),
-        Ok(_) => Err(Ended::Usage),
-        Err(error) => Err(Ended::from(error)),
-    }
-}
-
 /// What the files of a script and of stalls say.
 pub fn plan_in<S: Shelf>(
     alloc: Global,
@@ -48,18 +37,19 @@ pub fn plan_in<S: Shelf>(
     ensures { IfOk result (λ plan. FitsChannels map.now.channels plan.script) }
 {
     let lines = bytes_in(alloc, shelf, script)?;
-    let script = script_of(alloc, lines.as_slice(), map)?;
+    let script = read_script(alloc, lines.as_slice(), map)?;
     let lines = bytes_in(alloc, shelf, stalls)?;
     let stalls = read_stalls(alloc, lines.as_slice())?;
     Ok(Plan { script, stalls })
 }
 
-/// A new store of these stalls.
-fn room_of(alloc: Global, channels: &Channels, stalls: &Stalls) -> Result<Room, Ended>
+/// A new store of a plan, which has resets where its script has some.
+fn room_of(alloc: Global, channels: &Channels, plan: &Plan) -> Result<Room, Ended>
     requires { IsTable channels.now }
-    ensures { IfOk result (λ room. room ≡ empty (sizes_of channels.now) false stalls.now.capacity) }
+    ensures { IfOk result (λ room. room ≡ empty (sizes_of channels.now) (not (is_nil plan.now.script.resets)) plan.now.stalls.capacity) }
 {
-    match Room::new(alloc, channels, false, stalls.capacity()) {
+    let resets = !plan.script.resets().is_empty();
+    match Room::new(alloc, channels, resets, plan.stalls.capacity()) {
         Ok(room) => Ok(room),
         Err(error) => Err(Ended::from(error)),
     }
@@ -89,7 +79,7 @@ pub fn recorded<S: Shell>(
     requires some { 1 ≤ cycles }
     requires few { cycles ≤ MOST_CYCLES }
 {
-    let room = room_of(alloc, &map.channels, &plan.stalls)?;
+    let room = room_of(alloc, &map.channels, plan)?;
     let mut env = env_of(alloc, &plan.script, map)?;
     Ok(record_run(
         alloc,
@@ -97,6 +87,7 @@ pub fn recorded<S: Shell>(
         map,
         &mut env,
         &plan.stalls,
+        plan.script.resets(),
         room,
         cycles,
         sink,

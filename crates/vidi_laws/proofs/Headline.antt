@@ -1,32 +1,24 @@
 -- The laws of a script's run, said of the four files.
 use Rattle.std.proofs.Common.{◌≡◌, ◌≤◌, ℕ, true, List, [], ◌∷◌, ◌++◌, Option, None, Some, length, take, slice_get, refl, sym, subst, arith}
 use Rattle.std.specs.Prelude.{false, IsSomeAnd}
-use Rattle.std.proofs.lemmas.List.Elements.{All-nil}
 use Rattle.std.specs.FinMap.{get}
 use Rattle.vidi_commands.specs.vidi_io.Shelf.{Files}
 use Rattle.vidi_commands.specs.trace_model.declared.row.Row.{Row}
-use Rattle.vidi_commands.specs.trace_model.declared.row.Offers.{Offers}
 use Rattle.vidi_commands.specs.trace_model.Recording.{trace_of}
-use Rattle.net_design.specs.declared.design.Design.{Design}
-use Rattle.vidi_commands.specs.chan_map.declared.pins.Map.{Map}
-use Rattle.vidi_commands.specs.run_model.Played.{AreStable}
-use Rattle.vidi_commands.specs.run_model.Run.{AllUp, IsTheRun}
-use Rattle.vidi_commands.specs.run_model.Stretches.{AreTheRun}
+use Rattle.vidi_commands.specs.run_model.Stretches.{rows_of}
 use Rattle.vidi_commands.specs.trace_model.declared.trace.Trace.{Trace}
 use Rattle.vidi_commands.specs.trace_code.Encoding.{encode, HasEncoding}
 use Rattle.vidi_commands.specs.trace_code.NoReset.{HasNoReset}
 use Rattle.vidi_commands.proofs.trace_code_lemmas.NoReset.{rows-no_reset}
 use Rattle.vidi_commands.specs.trace_model.declared.packet.TheConstants.{MOST_CYCLES}
-use Rattle.vidi_commands.specs.env_script.Offered.{offers_after}
-use Rattle.vidi_commands.specs.env_script.Resets.{is_due_behind}
 use Rattle.vidi_commands.specs.env_script.ScriptOffer.{script_offer}
 use Rattle.vidi_commands.specs.env_script.declared.stalls.Stalls.{Stalls}
 use Rattle.vidi_commands.proofs.env_script_lemmas.Lasting.{script-lasts}
 use Rattle.vidi_commands.specs.bench_run.Plain.{spot_behind, IsPlainRun}
 use Rattle.vidi_commands.proofs.bench_run_lemmas.PlainLaws.{plain-keeps, plain-of}
 use Rattle.vidi_commands.specs.vidi_recorder.Course.{Course, IsTheRunOf}
-use Rattle.vidi_commands.proofs.vidi_recorder_lemmas.Kept.{drained-plain, no-hidden_gate}
-use Rattle.vidi_commands.proofs.vidi_recorder_lemmas.Runs.{the-run}
+use Rattle.vidi_commands.proofs.vidi_recorder_lemmas.Kept.{drained-plain, no-hidden_gate, run-over}
+use Rattle.vidi_commands.proofs.vidi_recorder_lemmas.Runs.{run-long, run-of}
 use Rattle.vidi_commands.proofs.vidi_recorder_lemmas.ScriptKept.{script-kept, full-drains}
 use Rattle.vidi_commands.proofs.vidi_recorder_lemmas.Short.{trace-short}
 use Rattle.vidi_commands.specs.vidi_bench.Reading.{IsRead}
@@ -41,39 +33,18 @@ pub run-kept : RecordedRunIsKept
 run-kept design m script stalls files b plan planned rows stop run =
     script-kept b.device.design b.device.map b.script plan rows stop planned.bench.device.bound.1.table planned.bench.plays.2 run
 
--- where no time of a reset is, a run is one stretch
-never-due : (rows : List Row) → is_due_behind [] rows ≡ true → ⊥
-never-due rows due = cc
-
-one-stretch : (d : Design) (m : Map) (offers : List Row → Offers) (n : ℕ) (rows : List Row) (stop : Option ℕ)
-    → IsTheRun d m offers (AllUp m.channels) n rows stop
-    → AreTheRun d m offers (λ past. AllUp m.channels) (is_due_behind []) n [] rows stop
-one-stretch d m offers n rows None (run, stable, l) =
-    ((run, λ k some less due. never-due (take k rows) due), All-nil (AreStable m.channels), stable, l)
-one-stretch d m offers n rows (Some c) (stops, l) = (
-  record {
-    next = stops.next;
-    played = (stops.played, λ k some less due. never-due (take k (rows ++ stops.next ∷ [])) due);
-    before = All-nil (AreStable m.channels);
-    stable = stops.stable;
-    unstable = stops.unstable;
-  },
-  l,
-)
-
 pub drained-run : DrainedRecordingIsTheRun
 drained-run design map script stalls files b plan planned rows stop run drains =
     let d = b.device.design in
     let offer = script_offer b.script in
-    let plain = plain-of d b.device.map offer [] b.script.cycles [] rows stop
-    (one-stretch d b.device.map (offers_after b.device.map.channels offer) b.script.cycles rows stop
-    (drained-plain (course_of b plan) rows stop planned.holds drains run)) in
-    subst (λ (times : List ℕ). IsPlainRun d b.device.map offer times b.script.cycles
-    (record { rows = rows; unstable = spot_behind rows stop })) (sym planned.no_resets) plain
+    let plain = drained-plain (course_of b plan) rows stop refl planned.holds drains run in
+    subst (λ (rs : List Row). IsPlainRun d b.device.map offer b.script.resets b.script.cycles
+    (record { rows = rs; unstable = spot_behind rs stop })) plain.rows_are
+    (plain-of d b.device.map offer b.script.resets b.script.cycles plain.past plain.here stop plain.run)
 
 pub wide-drains : WidePlanDrains
 wide-drains design map script stalls files b plan planned all rows =
-    full-drains b.device.map.channels plan rows planned.bench.device.bound.1.table planned.holds all
+    full-drains b.device.map.channels plan b.script.resets rows planned.bench.device.bound.1.table planned.holds all
 
 pub hides-no_gate : RecordingHidesNoGate
 hides-no_gate design map script stalls files b plan planned rows run t c row at l down =
@@ -81,10 +52,12 @@ hides-no_gate design map script stalls files b plan planned rows run t c row at 
 
 pub recorded-short : RecordedTraceIsShort
 recorded-short design map script stalls files b plan planned rows stop run =
-    let parts = the-run (course_of b plan) rows stop run in
-    let l : length rows ≤ b.script.cycles = parts.2 in
+    let w = course_of b plan in
+    let l : length (rows_of run.past ++ run.here) ≤ b.script.cycles = run-long w run.past run.here stop run.run in
+    let same : length (rows_of run.past ++ run.here) ≡ length rows = ap (λ (rs : List Row). length rs) run.rows_are in
     let few : b.script.cycles ≤ MOST_CYCLES = planned.bench.plays.2.few in
-    trace-short b.device.map.channels planned.bench.device.bound.1.table rows parts.0.marked (omega (arith, l, few))
+    trace-short b.device.map.channels planned.bench.device.bound.1.table rows (run-over w rows (run-of w rows stop run))
+    (omega (arith, l, same, few))
 
 -- a file that stands as it did is read as it was
 read-again : (limit : ℕ) (name file : List ℕ) (files now : Files) → get now name ≡ get files name → IsRead limit name (Some files) file

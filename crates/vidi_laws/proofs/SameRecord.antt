@@ -1,19 +1,18 @@
 -- `record`: one answer, which leaves one trace.
-use Rattle.std.proofs.Common.{◌≡◌, ℕ, ◌≤◌, Bool, false, List, [], Option, None, Some, Ok, Err, inl, inr, length, sym, ap, subst, ◌∙◌, arith}
+use Rattle.std.proofs.Common.{◌≡◌, ℕ, ◌≤◌, Bool, not, List, Option, None, Some, Ok, Err, inl, inr, length, sym, ap, subst, ◌∙◌, arith}
 use Rattle.vidi_commands.specs.trace_model.declared.channel.Channel.{Channel}
 use Rattle.vidi_commands.specs.trace_model.declared.row.Row.{Row}
 use Rattle.vidi_commands.specs.trace_model.Recording.{trace_of}
 use Rattle.vidi_commands.specs.trace_code.Encoding.{encode}
 use Rattle.vidi_commands.specs.chan_map.declared.pins.Map.{Map}
 use Rattle.vidi_commands.specs.room_ledger.Gates.{Plan}
-use Rattle.vidi_commands.specs.room_ledger.Reservation.{need}
-use Rattle.vidi_commands.proofs.vidi_bits_lemmas.Lists.{some_same}
-use Rattle.vidi_commands.proofs.room_ledger_lemmas.GateLaws.{one-set}
-use Rattle.vidi_commands.proofs.run_model_lemmas.Ends.{one-end_of}
-use Rattle.vidi_commands.proofs.run_model_lemmas.Played.{the-runs_alike}
+use Rattle.vidi_commands.specs.vidi_bits.Findings.{is_nil}
+use Rattle.vidi_commands.proofs.env_script_lemmas.Lasting.{script-lasts}
+use Rattle.vidi_commands.proofs.vidi_recorder_lemmas.Runs.{one-recorded}
 use Rattle.vidi_commands.specs.env_script.declared.error.StallError.TheVariants as stall_errors
 use Rattle.vidi_commands.specs.env_script.declared.script.Script.{Script}
 use Rattle.vidi_commands.specs.env_script.declared.stalls.Stalls.{Stalls}
+use Rattle.vidi_commands.specs.env_script.Fits.{FitsChannels}
 use Rattle.vidi_commands.specs.env_script.Plan.{allowance_at}
 use Rattle.vidi_commands.specs.env_script.Reasons.{read_lines}
 use Rattle.vidi_commands.specs.env_script.Stalls.{ReadsStalls}
@@ -21,22 +20,23 @@ use Rattle.vidi_commands.specs.env_script.ScriptOffer.{script_offer}
 use Rattle.vidi_commands.specs.env_script.Offered.{offers_after}
 use Rattle.vidi_commands.specs.env_script.OneReading.{SamePlan}
 use Rattle.vidi_commands.specs.vidi_io.Shelf.{Files, holding}
-use Rattle.vidi_commands.specs.vidi_recorder.Course.{Course, GatesUnder, course, plan_of, sizes_of, IsTheRunOf}
+use Rattle.vidi_commands.specs.vidi_recorder.Course.{Course, course, gates_behind, plan_of, turns_of, IsTheRunOf}
 use Rattle.vidi_commands.specs.report_text.declared.reason.Word.TheVariants as words
-use Rattle.vidi_commands.specs.report_text.declared.reason.Reason.TheVariants.{ScriptLine, StallLine, TooSmall}
+use Rattle.vidi_commands.specs.report_text.declared.reason.Reason.TheVariants.{StallLine, TooSmall}
 use Rattle.vidi_commands.specs.report_text.Reason.{reason_line}
 use Rattle.vidi_commands.specs.vidi_bench.declared.bench.Bench.{Bench}
 use Rattle.vidi_commands.specs.vidi_bench.vidi_answer.declared.status.Status.{Status}
 use Rattle.vidi_commands.specs.vidi_bench.vidi_answer.declared.status.Status.TheVariants.{Done, Refused, Unstable}
-use Rattle.vidi_commands.specs.vidi_bench.Steps.{Ending, IsRefusal, Step}
+use Rattle.vidi_commands.specs.vidi_bench.Steps.{IsRefusal}
 use Rattle.vidi_commands.specs.vidi_bench.Reading.{Reading}
 use Rattle.vidi_commands.specs.vidi_bench.Benches.{RefusedTexts, IsBench}
 use Rattle.vidi_commands.specs.vidi_bench.Design.{text_limit}
-use Rattle.vidi_commands.specs.run_commands.Records.{HasResets, IsNoPlan, IsTooSmall, RefusedPlan, RefusedPlanned, RefusedStore}
+use Rattle.vidi_commands.specs.run_commands.Records.{least_for, IsNoPlan, IsTooSmall, RefusedPlan, RefusedPlanned, RefusedStore}
 use Rattle.vidi_commands.specs.run_commands.Records.{IsUnrecorded, IsPlanned, IsRecorded, RecordsRun, Records, course_of}
 use Rattle.vidi_commands.specs.run_commands.Said.{recorded_line, unstable_line}
 use Rattle.vidi_laws.proofs.OneEnding.{Same, Meet, Apart, One, OneBy, one-said, one-read, one-reading-by, reading-apart, step-meets}
 use Rattle.vidi_laws.proofs.OneCheck.{Alike, alike}
+use Rattle.vidi_laws.proofs.SameRun.{the-run_alike}
 use Rattle.vidi_laws.proofs.SameBench.{BenchLaws, SameBench, one-texts, texts-apart, one-refused_texts, texts-refused, same-bench}
 
 same-line : (l k : ℕ) → stall_errors.Line l ≡ stall_errors.Line k → l ≡ k
@@ -45,9 +45,10 @@ same-line l k e = cc
 no-line : (l : ℕ) → stall_errors.Line l ≡ stall_errors.Memory → ⊥
 no-line l e = cc
 
-small-once : (channels : List Channel) (p q : Stalls) → SamePlan p q → Meet Same (IsTooSmall channels p) (IsTooSmall channels q)
-small-once channels p q same a b x y (small, s) (small', s') =
-    let needed = need (sizes_of channels) in
+small-once : (channels : List Channel) (script : Script) (p q : Stalls) → SamePlan p q
+    → Meet Same (IsTooSmall channels script p) (IsTooSmall channels script q)
+small-once channels script p q same a b x y (small, s) (small', s') =
+    let needed = least_for channels script in
     one-said (Refused words.Stalls (TooSmall needed p.capacity)) (reason_line words.Stalls (TooSmall needed p.capacity)) a b x y s
     (subst (λ (n : ℕ). IsRefusal words.Stalls (TooSmall needed n) b y) (sym same.0) s')
 
@@ -57,22 +58,12 @@ recorded-once channels rows None a b x y u v =
 recorded-once channels rows (Some c) a b x y u v =
     one-said (Unstable c (length rows)) (unstable_line channels c (length rows)) a b x y u v
 
--- ---- a script with resets
-resets-once : (bytes : List ℕ) (script : Script) → One (HasResets bytes script)
-resets-once bytes script a b x y (l, some, is, s) (k, some', is', s') =
-    let line : k ≡ l = some_same k l (sym is' ∙ is) in
-    one-said (Refused words.Script (ScriptLine l)) (reason_line words.Script (ScriptLine l)) a b x y s
-    (subst (λ (n : ℕ). IsRefusal words.Script (ScriptLine n) b y) line s')
-
-resets-apart : (bytes : List ℕ) (script : Script) → Apart (HasResets bytes script) (λ (none : Unit {0}). script.resets ≡ [])
-resets-apart bytes script a x none (l, some, is, s) empty = some empty
-
 -- the same plan, for a course
-plan-path : (p q : Stalls) → SamePlan p q → plan_of q ≡ plan_of p
-plan-path p q same =
+plan-path : (p q : Stalls) (times : List ℕ) → SamePlan p q → plan_of q times ≡ plan_of p times
+plan-path p q times same =
     let capacity = sym same.0 in
     let drains = sym same.1 in
-    λ i. record { capacity = capacity i; allowance = allowance_at (drains i); resets = false }
+    λ i. record { capacity = capacity i; allowance = allowance_at (drains i); resets = not (is_nil times) }
 
 abbrev pub LeftAlike : Status → Status → List ℕ → List ℕ → Option Files → Option Files → Type 0
 LeftAlike a b x y left right = Alike a b x y × (left ≡ right)
@@ -99,39 +90,26 @@ module _ (laws : BenchLaws) where
       → SamePlan p q
   one-plan_of bytes p q x y = laws.plan (read_lines bytes) (Ok p) (Ok q) x y
 
-  refused-store : (stalls : List ℕ) (channels : List Channel) → One (RefusedStore stalls channels)
-  refused-store stalls channels = step-meets Same (IsNoPlan stalls) (IsNoPlan stalls) (λ (p : Stalls). ReadsStalls (read_lines stalls) (Ok p))
-      (λ (p : Stalls). ReadsStalls (read_lines stalls) (Ok p)) (IsTooSmall channels) (IsTooSmall channels)
-      (no_plan stalls) (plan-apart stalls) (plan-apart stalls)
-      (λ p q is is'. small-once channels p q (one-plan_of stalls p q is is'))
-
-  -- what ends the command with this script over these channels
-  abbrev RefusedWith : List ℕ → List ℕ → Script → List Channel → Ending
-  RefusedWith script stalls s channels =
-      Step (HasResets script s) (λ (none : Unit {0}). s.resets ≡ []) (λ none. RefusedStore stalls channels)
-
-  refused-plan : (script stalls : List ℕ) (b : Bench) → One (RefusedPlan script stalls b)
-  refused-plan script stalls b = step-meets Same (HasResets script b.script) (HasResets script b.script)
-      (λ (none : Unit {0}). b.script.resets ≡ []) (λ (none : Unit {0}). b.script.resets ≡ [])
-      (λ none. RefusedStore stalls b.device.map.channels) (λ none. RefusedStore stalls b.device.map.channels)
-      (resets-once script b.script) (resets-apart script b.script) (resets-apart script b.script)
-      (λ p q is is'. refused-store stalls b.device.map.channels)
+  refused-plan : (stalls : List ℕ) (b : Bench) → One (RefusedPlan stalls b)
+  refused-plan stalls b = step-meets Same (IsNoPlan stalls) (IsNoPlan stalls) (λ (p : Stalls). ReadsStalls (read_lines stalls) (Ok p))
+      (λ (p : Stalls). ReadsStalls (read_lines stalls) (Ok p)) (IsTooSmall b.device.map.channels b.script)
+      (IsTooSmall b.device.map.channels b.script) (no_plan stalls) (plan-apart stalls) (plan-apart stalls)
+      (λ p q is is'. small-once b.device.map.channels b.script p q (one-plan_of stalls p q is is'))
 
   -- a bench counts by its map and its script alone
-  other-plan : (script stalls : List ℕ) (b c : Bench) → SameBench b c → (a : Status) (x : List ℕ) → RefusedPlan script stalls c a x
-      → RefusedPlan script stalls b a x
-  other-plan script stalls b c same a x refused =
-      subst (λ (s : Script). RefusedWith script stalls s b.device.map.channels a x) (sym same.script)
-      (subst (λ (m : Map). RefusedWith script stalls c.script m.channels a x) (sym same.device.map) refused)
+  other-plan : (stalls : List ℕ) (b c : Bench) → SameBench b c → (a : Status) (x : List ℕ) → RefusedPlan stalls c a x → RefusedPlan stalls b a x
+  other-plan stalls b c same a x refused =
+      subst (λ (s : Script). RefusedStore stalls b.device.map.channels s a x) (sym same.script)
+      (subst (λ (m : Map). RefusedStore stalls m.channels c.script a x) (sym same.device.map) refused)
 
   pub refused-planned : (design m script stalls : List ℕ) → OneBy Alike (RefusedPlanned design m script stalls)
   refused-planned design m script stalls = step-meets Alike (RefusedTexts design m script) (RefusedTexts design m script)
-      (IsBench design m script) (IsBench design m script) (RefusedPlan script stalls) (RefusedPlan script stalls)
+      (IsBench design m script) (IsBench design m script) (RefusedPlan stalls) (RefusedPlan stalls)
       (one-refused_texts laws design m script)
       (λ a x b refused bench. texts-refused laws design m script b bench a x refused)
       (λ a x b refused bench. texts-refused laws design m script b bench a x refused)
-      (λ b c is is' s t x y u v. alike s t x y (refused-plan script stalls b s t x y u
-      (other-plan script stalls b c (same-bench laws design m script b c is is') t y v)))
+      (λ b c is is' s t x y u v. alike s t x y (refused-plan stalls b s t x y u
+      (other-plan stalls b c (same-bench laws design m script b c is is') t y v)))
 
   unrecorded : (design m script stalls : List ℕ) (files : Files)
       → OneBy Alike (IsUnrecorded design m script stalls (Some files) (λ _. ⊥))
@@ -141,17 +119,16 @@ module _ (laws : BenchLaws) where
 
   -- ---- which isn't there where something is recorded
   module _ (design m script stalls : List ℕ) (b : Bench) (plan : Stalls) (bench : IsBench design m script b)
-      (none : b.script.resets ≡ []) (planned : ReadsStalls (read_lines stalls) (Ok plan)) (holds : need (sizes_of b.device.map.channels) ≤ plan.capacity) (a : Status)
+      (planned : ReadsStalls (read_lines stalls) (Ok plan)) (holds : least_for b.device.map.channels b.script ≤ plan.capacity) (a : Status)
       (x : List ℕ) where
     pub refused-apart : RefusedPlanned design m script stalls a x → ⊥
     refused-apart (inl refused) = texts-refused laws design m script b bench a x refused
-    refused-apart (inr (c, other, inl (l, some, is, said))) =
-        some (ap (λ (s : Script). s.resets) (same-bench laws design m script c b other bench).script ∙ none)
-    refused-apart (inr (c, other, inr (empty, is, inl bad))) = plan-apart stalls a x plan bad planned
-    refused-apart (inr (c, other, inr (empty, is, inr (p, reads, (small, said))))) =
+    refused-apart (inr (c, other, inl bad)) = plan-apart stalls a x plan bad planned
+    refused-apart (inr (c, other, inr (p, reads, (small, said)))) =
         let same = same-bench laws design m script c b other bench in
         let plans = one-plan_of stalls p plan reads planned in
-        let least = subst (λ (k : Map). need (sizes_of k.channels) ≤ plan.capacity) (sym same.device.map) holds in
+        let there = subst (λ (k : Map). least_for k.channels b.script ≤ plan.capacity) (sym same.device.map) holds in
+        let least = subst (λ (k : Script). least_for c.device.map.channels k ≤ plan.capacity) (sym same.script) there in
         let capacity = plans.0 in
         omega (arith, small, least, capacity)
 
@@ -159,7 +136,7 @@ module _ (laws : BenchLaws) where
       (is : IsPlanned design m script stalls (Some files) b plan) (a : Status) (x : List ℕ) where
     planned-apart : RefusedPlanned is.design_text is.map_text is.script_text is.stalls_text a x → ⊥
     planned-apart =
-        refused-apart is.design_text is.map_text is.script_text is.stalls_text b plan is.bench is.no_resets is.planned is.holds a x
+        refused-apart is.design_text is.map_text is.script_text is.stalls_text b plan is.bench is.planned is.holds a x
 
     unrecorded-apart : IsUnrecorded design m script stalls (Some files) (λ _. ⊥) a x → ⊥
     unrecorded-apart = texts-apart design m script files
@@ -189,41 +166,46 @@ module _ (laws : BenchLaws) where
 
   -- the course of one of them, with the other design
   abbrev beside : Bench → Stalls → Bench → Course
-  beside b p c = course c.device.design b.device.map (script_offer b.script) p b.script.cycles
+  beside b p c = course c.device.design b.device.map (script_offer b.script) p b.script.resets b.script.cycles
 
   pub course-beside : (P : Course → Type 0) (b c : Bench) (p q : Stalls) → SameBench b c → SamePlan p q → P (course_of c q)
       → P (beside b p c)
   course-beside P b c p q same plans r =
-      let plan = plan-path p q plans in
+      let plan = plan-path p q b.script.resets plans in
       let d = c.device.design in
-      let map-there = subst (λ (k : Map). P (course d k (script_offer c.script) q c.script.cycles)) (sym same.device.map) r in
-      let script-there = subst (λ (k : Script). P (course d b.device.map (script_offer k) q k.cycles)) (sym same.script) map-there in
+      let map-there = subst (λ (k : Map). P (course d k (script_offer c.script) q c.script.resets c.script.cycles)) (sym same.device.map) r in
+      let script-there = subst (λ (k : Script). P (course d b.device.map (script_offer k) q k.resets k.cycles)) (sym same.script) map-there in
       subst (λ (k : Plan). P (record {
         design = c.device.design;
         bound = b.device.map;
         offers = offers_after b.device.map.channels (script_offer b.script);
         plan = k;
+        times = b.script.resets;
         cycles = b.script.cycles;
       })) plan script-there
 
-  pub run-once : (b c : Bench) (p : Stalls) → SameBench b c → (rows others : List Row) (stop end : Option ℕ)
-      → IsTheRunOf (course_of b p) rows stop → IsTheRunOf (beside b p c) others end → (others ≡ rows) × (end ≡ stop)
-  run-once b c p same rows others stop end run run' =
-      let channels = b.device.map.channels in
-      let offers = offers_after channels (script_offer b.script) in
-      let gates = GatesUnder channels (plan_of p) in
-      let theirs = (the-runs_alike b.device.design c.device.design same.device.ready.lawful same.device.designs b.device.map offers gates
-      b.script.cycles others end).1 run' in
-      one-end_of b.device.design b.device.map same.device.ready offers gates
-      (λ before are g h. one-set (sizes_of channels) (plan_of p) before (length before) false g h)
-      b.script.cycles others rows end stop theirs run
+  pub run-once : (b c : Bench) (p : Stalls) → SameBench b c → FitsChannels b.device.map.channels b.script → (rows others : List Row)
+      (stop end : Option ℕ) → IsTheRunOf (course_of b p) rows stop → IsTheRunOf (beside b p c) others end
+      → (others ≡ rows) × (end ≡ stop)
+  run-once b c p same fits rows others stop end run run' =
+      let m = b.device.map in
+      let offer = script_offer b.script in
+      let theirs : IsTheRunOf (course_of b p) others end = record {
+        past = run'.past;
+        here = run'.here;
+        rows_are = run'.rows_are;
+        run = the-run_alike b.device.design c.device.design same.device.ready.lawful same.device.designs m (offers_after m.channels offer)
+            (gates_behind m.channels (plan_of p b.script.resets)) (turns_of (course_of b p)) b.script.cycles run'.past run'.here end run'.run;
+      } in
+      (one-recorded b.device.design m offer p b.script.resets b.script.cycles same.device.ready (script-lasts m.channels b.script fits)).1.1
+      others rows end stop theirs run
 
-  runs-once : (b c : Bench) (p : Stalls) → SameBench b c → (trace : List ℕ) (files : Files) (P Q : Bool → Type 0) (s t : Status)
+  runs-once : (b c : Bench) (p : Stalls) → SameBench b c → FitsChannels b.device.map.channels b.script → (trace : List ℕ) (files : Files) (P Q : Bool → Type 0) (s t : Status)
       (x y : List ℕ) (left right : Option Files) → RecordsRun (course_of b p) trace (Some files) P s x left
       → RecordsRun (beside b p c) trace (Some files) Q t y right → LeftAlike s t x y left right
-  runs-once b c p same trace files P Q s t x y left right (rows, stop, (run, leaves, _), said) (others, end, (run', leaves', _), said') =
+  runs-once b c p same fits trace files P Q s t x y left right (rows, stop, (run, leaves, _), said) (others, end, (run', leaves', _), said') =
       let channels = b.device.map.channels in
-      let one = run-once b c p same rows others stop end run run' in
+      let one = run-once b c p same fits rows others stop end run run' in
       let told = subst (λ (o : Option ℕ). IsRecorded channels rows o t y) one.1
       (subst (λ (rs : List Row). IsRecorded channels rs end t y) one.0 said') in (
         alike s t x y (recorded-once channels rows stop s t x y said told),
@@ -241,5 +223,5 @@ module _ (laws : BenchLaws) where
       absurd (unrecorded-apart design m script stalls files c p planned b y v)
   one_record design m script stalls trace files P Q a b x y left right (inr (c, p, planned, records)) (inr (e, q, planned', records')) =
       let same = planned-once design m script stalls files c e p q planned planned' in
-      runs-once c e p same.0 trace files P Q a b x y left right records
+      runs-once c e p same.0 planned.bench.plays.2 trace files P Q a b x y left right records
       (course-beside (λ (w : Course). RecordsRun w trace (Some files) Q b y right) c e p q same.0 same.1 records')

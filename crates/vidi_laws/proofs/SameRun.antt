@@ -63,7 +63,7 @@ module _ (d e : Design) (lawful : IsLawful d) (alike : AreAlike d e) (m : Map) (
     from-alike (and_stretch past rows) (more ∷ rest) are.2,
   )
 
-  the-run_alike : (n : ℕ) (past : List (List Row)) (here : List Row) (stop : Option ℕ)
+  pub the-run_alike : (n : ℕ) (past : List (List Row)) (here : List Row) (stop : Option ℕ)
       → AreTheRun e m offers gates turns n past here stop → AreTheRun d m offers gates turns n past here stop
   the-run_alike n past here None (are, before, stable, l) = (from-alike [] (and_stretch past here) are, before, stable, l)
   the-run_alike n past here (Some c) (stops, l) = (

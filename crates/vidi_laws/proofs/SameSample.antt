@@ -46,15 +46,15 @@ module _ (laws : BenchLaws) (design m script stalls : List ℕ) where
       let same = same-bench laws design m script b c x.bench y.bench in
       let plans = records.one-plan_of laws stalls p q x.planned y.planned in
       let theirs = records.course-beside laws (λ (w : Course). IsTheRunOf w others end) b c p q same plans y.run in
-      let one = records.run-once laws b c p same rows others stop end x.run theirs in
+      let one = records.run-once laws b c p same x.bench.plays.2 rows others stop end x.run theirs in
       record { same_rows = one.0; same_stop = one.1; same_map = same.device.map }
 
   one-untraced : OneBy Alike (IsUntraced design m script stalls)
   one-untraced a b x y (inl u) (inl v) = records.refused-planned laws design m script stalls a b x y u v
   one-untraced a b x y (inl u) (inr (c, q, rows, channel, is, said)) =
-      absurd (records.refused-apart laws design m script stalls c q is.bench is.no_resets is.planned is.holds a x u)
+      absurd (records.refused-apart laws design m script stalls c q is.bench is.planned is.holds a x u)
   one-untraced a b x y (inr (c, q, rows, channel, is, said)) (inl v) =
-      absurd (records.refused-apart laws design m script stalls c q is.bench is.no_resets is.planned is.holds b y v)
+      absurd (records.refused-apart laws design m script stalls c q is.bench is.planned is.holds b y v)
   one-untraced a b x y (inr (c, p, rows, channel, is, said)) (inr (e, q, others, other, is', said')) =
       let one = same-run c e p q rows others (Some channel) (Some other) is is' in
       let told = subst (λ (k : Map). IsRecorded k.channels rows (Some channel) b y) (sym one.same_map)
@@ -70,7 +70,7 @@ module _ (laws : BenchLaws) (design m script stalls : List ℕ) where
 
   traced-apart : Apart (IsUntraced design m script stalls) (IsTraced design m script stalls)
   traced-apart a x bytes (inl u) (b, p, rows, is, e) =
-      records.refused-apart laws design m script stalls b p is.bench is.no_resets is.planned is.holds a x u
+      records.refused-apart laws design m script stalls b p is.bench is.planned is.holds a x u
   traced-apart a x bytes (inr (c, q, rows, channel, is, said)) (b, p, others, is', e) =
       no-stop channel (same-run c b q p rows others (Some channel) None is is').same_stop
 

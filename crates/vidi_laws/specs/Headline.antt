@@ -108,7 +108,7 @@ abbrev pub DrainedRecordingIsTheRun : Type 0
 DrainedRecordingIsTheRun = (design map script stalls : List ℕ) (files : Option Files) (b : Bench) (plan : Stalls)
     → IsPlanned design map script stalls files b plan
     → (rows : List Row) (stop : Option ℕ) → IsTheRunOf (course_of b plan) rows stop
-    → EverythingDrains (sizes_of b.device.map.channels) (plan_of plan) rows
+    → EverythingDrains (sizes_of b.device.map.channels) (plan_of plan b.script.resets) rows
     → IsPlainRun b.device.design b.device.map (script_offer b.script) b.script.resets b.script.cycles
     (record { rows = rows; unstable = spot_behind rows stop })
 
@@ -116,14 +116,14 @@ DrainedRecordingIsTheRun = (design map script stalls : List ℕ) (files : Option
 abbrev pub WidePlanDrains : Type 0
 WidePlanDrains = (design map script stalls : List ℕ) (files : Option Files) (b : Bench) (plan : Stalls)
     → IsPlanned design map script stalls files b plan → DrainsAll plan
-    → (rows : List Row) → EverythingDrains (sizes_of b.device.map.channels) (plan_of plan) rows
+    → (rows : List Row) → EverythingDrains (sizes_of b.device.map.channels) (plan_of plan b.script.resets) rows
 
 -- a gate is down in row t only where bytes wait
 abbrev pub RecordingHidesNoGate : Type 0
 RecordingHidesNoGate = (design map script stalls : List ℕ) (files : Option Files) (b : Bench) (plan : Stalls)
     → IsPlanned design map script stalls files b plan → (rows : List Row) → IsRunOf (course_of b plan) rows
     → (t c : ℕ) (row : Row) → slice_get rows t ≡ Some row → c < length b.device.map.channels → has row.gates c ≡ false
-    → 0 < used_at (sizes_of b.device.map.channels) (plan_of plan) rows t false
+    → 0 < used_at (sizes_of b.device.map.channels) (plan_of plan b.script.resets) rows t row.fresh
 
 -- in each stretch of the run that `run` prints, from one reset to the next, each transaction's content in the row of its completion is that
 -- of its start

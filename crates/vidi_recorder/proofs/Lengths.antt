@@ -1,18 +1,20 @@
 -- Lengths of packets.
-use Rattle.std.proofs.Common.{◌≡◌, ℕ, ◌+◌, ◌<◌, ◌≤◌, ◌==◌, ◌&&◌, Bool, true, false, cond, not, List, [], ◌∷◌, Option, None, Some}
-use Rattle.std.proofs.Common.{length, map, sum_by, refl, ap, sym, ◌∙◌, arith}
-use Rattle.std.proofs.lemmas.List.{length-map}
+use Rattle.std.proofs.Common.{◌≡◌, ℕ, ◌+◌, ◌<◌, ◌≤◌, ◌==◌, ◌&&◌, Bool, true, false, cond, not, List, [], ◌∷◌, ◌++◌, Option, None, Some}
+use Rattle.std.proofs.Common.{length, map, sum_by, take, drop, refl, ap, sym, ◌∙◌, arith}
+use Rattle.std.proofs.lemmas.List.{length-map, take_at}
 use Rattle.std.proofs.lemmas.List.Sums.{sum_by-cons}
 use Rattle.trace_code.specs.trace_model.declared.channel.Channel.{Channel}
 use Rattle.trace_code.specs.trace_model.Channel.{content_bytes, IsTable}
 use Rattle.trace_code.specs.trace_model.declared.row.Row.{Row}
 use Rattle.trace_code.specs.trace_model.Length.{contents_len, head_len, packet_len}
-use Rattle.trace_code.specs.trace_model.Recording.{has_event}
+use Rattle.trace_code.specs.trace_model.Recording.{has_event, reset_packet}
 use Rattle.trace_code.proofs.RowBytes.{packet-most}
+use Rattle.trace_code.specs.Encoding.{packet_bytes}
 use Rattle.room_ledger.specs.Gates.{row_len}
-use Rattle.room_ledger.specs.Ledger.{Ledger, claimed, Emitted}
-use Rattle.room_ledger.specs.Reservation.{event_len, need, whole}
+use Rattle.room_ledger.specs.Ledger.{Ledger, claimed, Emitted, IsReset}
+use Rattle.room_ledger.specs.Reservation.{event_len, need, reset_len, whole}
 use Rattle.room_ledger.proofs.Following.{same-len}
+use Rattle.vidi_recorder.specs.Standing.{reset_bytes}
 
 -- a row's packet is no longer than what all channels reserve together
 pub row-least : (channels : List Channel) → IsTable channels → (row : Option Row)
@@ -73,3 +75,18 @@ packet_room channels old new starts ends waiting len capacity is room sizes w c 
 -- what is in the books is no more than the store holds
 pub used_within : (old new : Ledger) (starts ends : ℕ) → Emitted old starts ends new → claimed new ≤ new.capacity → new.used ≤ old.capacity
 used_within old new starts ends is room = let cap = is.capacity in omega (arith, room, cap)
+
+-- and so has the packet of a reset
+pub reset_room : (old new : Ledger) (waiting capacity : ℕ) → IsReset old new → claimed new ≤ new.capacity → waiting ≡ old.used
+    → capacity ≡ old.capacity → waiting + reset_len ≤ capacity
+reset_room old new waiting capacity is room w c =
+    let used = is.used in
+    let cap = is.capacity in
+    omega (arith, room, used, cap, w, c)
+
+-- what is put of a reset
+pub reset-put : (comes : Bool) (gap len : ℕ) (items old new : List ℕ) → comes ≡ true → new ≡ packet_bytes [] (reset_packet gap) ++ drop len old
+    → len ≡ reset_len → items ++ take len new ≡ items ++ reset_bytes comes gap
+reset-put comes gap len items old new h e l =
+    let p = packet_bytes [] (reset_packet gap) in
+    ap (λ bs. items ++ take len bs) e ∙ ap (λ bs. items ++ bs) (take_at p (drop len old) len (sym l) ∙ ap (λ b. reset_bytes b gap) (sym h))

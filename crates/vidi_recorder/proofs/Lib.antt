@@ -1,7 +1,9 @@
 pub mod Lengths
 pub mod Passed
 pub mod Pushing
+pub mod Gated
 pub mod Runs
+pub mod Played
 pub mod Kept
 pub mod Going
 pub mod Turning

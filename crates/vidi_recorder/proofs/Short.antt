@@ -11,7 +11,7 @@ use Rattle.trace_code.specs.trace_model.declared.packet.Packet.{Packet}
 use Rattle.trace_code.specs.trace_model.declared.row.Row.{Row}
 use Rattle.trace_code.specs.trace_model.Channel.{IsChannel, IsName, IsTable}
 use Rattle.trace_code.specs.trace_model.Recording.{after_gap, end_after, has_event, own_before, packet_of, packets_at, packets_from, reset_packet, trace_of}
-use Rattle.trace_code.specs.trace_model.Row.{AreRows, IsOver}
+use Rattle.trace_code.specs.trace_model.Row.{IsOver}
 use Rattle.trace_code.specs.declared.decoding.TheConstants.{TRACE_LIMIT}
 use Rattle.trace_code.specs.Encoding.{channel_bytes, encode, end_mark, header_bytes, packet_bytes, row_bytes, rows_bytes}
 use Rattle.room_ledger.proofs.Following.{same-len}
@@ -94,11 +94,12 @@ rows-short channels table t before (row ∷ rows) over =
 mark-long : (n : ℕ) → length (end_mark n) ≡ 5
 mark-long n = refl
 
-pub trace-short : (channels : List Channel) → IsTable channels → (rows : List Row) → AreRows channels rows → length rows ≤ MOST_CYCLES
+pub trace-short : (channels : List Channel) → IsTable channels → (rows : List Row)
+    → ((t : ℕ) (row : Row) → slice_get rows t ≡ Some row → IsOver channels row) → length rows ≤ MOST_CYCLES
     → length (encode (trace_of channels rows)) ≤ TRACE_LIMIT
-trace-short channels table rows are few =
+trace-short channels table rows over few =
     let a = header-short channels table in
-    let b = rows-short channels table 0 0 rows (λ t row at. (are t row at).0) in
+    let b = rows-short channels table 0 0 rows over in
     let count = length (packets_from channels 0 0 rows) in
     let e = ap length (encode-rows channels rows) in
     let d = length-append (header_bytes channels ++ rows_bytes channels rows) (end_mark count) in

@@ -33,32 +33,39 @@ pub fits-now : (channels : List Channel) (offer : List Row → ℕ → Offer) (c
     → AreLasting channels offer → ((c : ℕ) → current c ≡ offer rows c) → AllFit channels current
 fits-now channels offer current rows lasts now c x at = subst (FitsOffer x) (sym (now c)) (lasts.fits rows c x at)
 
+one-most : (b : Bool) → cond b 1 0 ≤ 1
+one-most true = omega arith
+one-most false = omega arith
+
 -- a count of packets is small
-pub count-few : (channels : List Channel) (plan : Plan) (first : Option (List ℕ)) (rows : List Row) (room : Ledger) (items : List ℕ)
-    (told : Option (List ℕ)) (packets cycle : ℕ) → Going channels plan first rows room items told packets → length rows ≡ cycle
-    → packets ≤ 2 * cycle
-count-few channels plan first rows room items told packets cycle going long =
+pub count-few : (channels : List Channel) (plan : Plan) (first : Option (List ℕ)) (rows : List Row) (fresh : Bool) (room : Ledger)
+    (items : List ℕ) (told : Option (List ℕ)) (packets cycle : ℕ) → Going channels plan first rows fresh room items told packets
+    → length rows ≡ cycle → packets ≤ 2 * cycle + 1
+count-few channels plan first rows fresh room items told packets cycle going long =
     let a = going.count in
     let b = rows-few channels rows in
-    omega (arith, a, b, long)
+    let c = one-most fresh in
+    omega (arith, a, b, c, long)
 
 -- ---- what is out and what waits behind the row, where this is the plan's allowance
-module _ (channels : List Channel) (plan : Plan) (first : Option (List ℕ)) (rows : List Row) (row : Row) (old mid new : Ledger)
-    (items mixed : List ℕ) (told now : Option (List ℕ)) (packets : ℕ) (going : Going channels plan first rows old items told packets)
-    (cycle : Cycle channels plan rows row old mid items mixed) (allowance : Option ℕ) (e : allowance ≡ plan.allowance (length rows)) where
+module _ (channels : List Channel) (plan : Plan) (first : Option (List ℕ)) (rows : List Row) (fresh : Bool) (row : Row) (next : Bool)
+    (old emitted mid new : Ledger) (items mixed : List ℕ) (told now : Option (List ℕ)) (packets : ℕ)
+    (going : Going channels plan first rows fresh old items told packets)
+    (cycle : Cycle channels plan rows fresh row next old emitted mid items mixed) (allowance : Option ℕ)
+    (e : allowance ≡ plan.allowance (length rows)) where
   pub going-next : (rest : List ℕ) (more : ℕ) → Regranted (record mid { used = left allowance mid.used }) new
       → rest ≡ drop (drained allowance mid.used) mixed → now ≡ append_known told (take (drained allowance mid.used) mixed)
-      → more ≡ packets + cond (has_event row) 1 0 → Going channels plan first (rows ++ row ∷ []) new rest now more
+      → more ≡ packets + cond (has_event row) 1 0 + cond next 1 0 → Going channels plan first (rows ++ row ∷ []) next new rest now more
   going-next rest more again r t m =
-      going-on channels plan first rows row old mid new items mixed told now packets going cycle rest more
+      going-on channels plan first rows fresh row next old emitted mid new items mixed told now packets going cycle rest more
       (subst (λ (a : Option ℕ). Regranted (record mid { used = left a mid.used }) new) e again)
       (r ∙ ap (λ a. drop (drained a mid.used) mixed) e)
       (t ∙ ap (λ a. append_known told (take (drained a mid.used) mixed)) e)
       m
 
-  pub cut-next : AppendsSome told now (take (drained allowance mid.used) mixed) → Cut channels plan first (rows ++ row ∷ []) now
+  pub cut-next : AppendsSome told now (take (drained allowance mid.used) mixed) → Cut channels plan first (rows ++ row ∷ []) next now
   cut-next some =
-      cut-drain channels plan first rows row old mid new items mixed told now packets going cycle
+      cut-drain channels plan first rows fresh row next old emitted mid new items mixed told now packets going cycle
       (subst (λ (a : Option ℕ). AppendsSome told now (take (drained a mid.used) mixed)) e some)
 
 -- ---- the memory keeps its sizes
@@ -69,7 +76,3 @@ written-len len new items a b =
     let d = length-drop (length new) items in
     let p = length-append new (drop (length new) items) in
     length-take-le len (new ++ drop (length new) items) (omega (arith, a, b, d, p)) ∙ sym b
-
-pub one-most : (b : Bool) → cond b 1 0 ≤ 1
-one-most true = omega arith
-one-most false = omega arith

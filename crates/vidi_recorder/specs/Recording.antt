@@ -1,10 +1,10 @@
 -- What a recording leaves, by its answer (this project's profile).
-use Rattle.std.specs.Prelude.{◌≡◌, ℕ, ◌+◌, ◌-◌, ◌<◌, ◌≤◌, ◌⊎◌, List, ◌++◌, Option, None, Some, length, take}
+use Rattle.std.specs.Prelude.{◌≡◌, ℕ, ◌+◌, ◌<◌, ◌≤◌, ◌⊎◌, List, ◌++◌, Option, None, Some, length, take}
 use Rattle.std.specs.Io.KnownBytes.{append_known}
 use Rattle.trace_code.specs.trace_model.declared.row.Row.{Row}
 use Rattle.trace_code.specs.trace_model.Recording.{trace_of}
 use Rattle.trace_code.specs.declared.decoding.TheConstants.{TRACE_LIMIT}
-use Rattle.trace_code.specs.Encoding.{encode, header_bytes, rows_bytes}
+use Rattle.trace_code.specs.Encoding.{encode, header_bytes}
 use Rattle.net_design.specs.declared.design.Design.{Design}
 use Rattle.net_design.specs.declared.values.Values.{Values}
 use Rattle.net_design.specs.Lawful.{IsLawful}
@@ -13,8 +13,8 @@ use Rattle.vidi_recorder.specs.declared.error.Outcome.{Outcome}
 use Rattle.vidi_recorder.specs.declared.error.Outcome.TheVariants.{Whole, Unstable}
 use Rattle.vidi_recorder.specs.declared.error.RecordError.{RecordError}
 use Rattle.vidi_recorder.specs.declared.error.RecordError.TheVariants.{WriteFault, Memory}
-use Rattle.vidi_recorder.specs.Course.{Course, IsTheRunOf, drained_before, sizes_of}
-use Rattle.vidi_recorder.specs.Standing.{Reached}
+use Rattle.vidi_recorder.specs.Course.{Course, IsTheRunOf, sizes_of, turns_within}
+use Rattle.vidi_recorder.specs.Standing.{Reached, bytes_so_far, drained_but_last}
 
 -- The environment stands for these rows, the shell goes on behind them, and the sink has grown by the encoding of their trace, which isn't
 -- too long to be read again.
@@ -34,9 +34,12 @@ EndsWith w runs stands_for old new (Whole packets) = (rows : List Row) × IsTheR
 EndsWith w runs stands_for old new (Unstable channel cycle packets) = (rows : List Row) × IsTheRunOf w rows (Some channel)
     × (cycle ≡ length rows) × IsRecorded w runs stands_for rows old new packets
 
--- whatever the design: the bytes are a front of the header and the rows' packets, or, where the rows are the run, of its trace's encoding
+-- whatever the design: the bytes are a front of the header and the rows' packets, with that of the reset which comes next, or, where the
+-- rows are the run, of its trace's encoding
 abbrev pub IsFrontOf : Course → List Row → List ℕ → Type 0
-IsFrontOf w rows bytes = (lost : List ℕ) × ((bytes ++ lost ≡ header_bytes w.bound.channels ++ rows_bytes w.bound.channels rows)
+IsFrontOf w rows bytes = (lost : List ℕ)
+    × ((bytes ++ lost ≡ header_bytes w.bound.channels ++ bytes_so_far w.bound.channels rows
+    (turns_within w.bound.channels w.plan w.times w.cycles rows))
     ⊎ ((stop : Option ℕ) × IsTheRunOf w rows stop × (bytes ++ lost ≡ encode (trace_of w.bound.channels rows))))
 
 -- the run is there, these are its first rows, and the bytes are a front of the encoding of its trace
@@ -56,8 +59,7 @@ pub record IsCutOff (w : Course) (runs : Design → Values → Option Row → Ty
   pub told : new ≡ append_known old bytes
   pub front : IsFrontOf w rows bytes
   pub of_the_run : IsLawful w.design → IsFrontOfTheRun w rows bytes
-  pub out : 0 < length rows → length (header_bytes w.bound.channels)
-      + drained_before (sizes_of w.bound.channels) w.plan rows (length rows - 1) ≤ length bytes
+  pub out : 0 < length rows → length (header_bytes w.bound.channels) + drained_but_last (sizes_of w.bound.channels) w.plan rows ≤ length bytes
 
 -- why a recording was cut off, and what it leaves; what want of memory leaves is said by itself
 abbrev pub FailsWith : Course → (Design → Values → Option Row → Type 0) → (List Row → Type 0) → Option (List ℕ) → Option (List ℕ)

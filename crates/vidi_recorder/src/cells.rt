@@ -1,6 +1,6 @@
 //! The memory of a recording.
 
-ghost use Rattle.std.specs.Prelude.{◌≡◌, [], length, IfOk};
+ghost use Rattle.std.specs.Prelude.{◌≡◌, [], false, length, IfOk};
 ghost use Rattle.circular_buffer.specs.Buffer.{buffer};
 ghost use Rattle.trace_code.specs.trace_model.Channel.{IsTable};
 ghost use Rattle.trace_code.specs.trace_model.Row.{all_widths};
@@ -33,6 +33,10 @@ pub(crate) struct Cells {
     pub packets: u32,
     /// The cycle at which the last of them ends, 0 before the first.
     pub end: u32,
+    /// How many of them are resets.
+    pub resets: usize,
+    /// Whether the next row is fresh: the packet of the reset before it was put.
+    pub fresh: bool,
 }
 
 /// The buffer in which drained bytes go out.
@@ -58,6 +62,8 @@ pub(crate) fn open(
     ensures offers { IfOk result (λ cells. length cells.given.offers.contents ≡ length (all_widths channels.now)) }
     ensures packets { IfOk result (λ cells. cells.packets ≡ 0) }
     ensures end { IfOk result (λ cells. cells.end ≡ 0) }
+    ensures resets { IfOk result (λ cells. cells.resets ≡ 0) }
+    ensures fresh { IfOk result (λ cells. cells.fresh ≡ false) }
 {
     let header = header_bytes(alloc, channels)?;
     let store = Store::new(alloc, capacity as usize)?;
@@ -72,5 +78,7 @@ pub(crate) fn open(
         out,
         packets: 0,
         end: 0,
+        resets: 0,
+        fresh: false,
     })
 }

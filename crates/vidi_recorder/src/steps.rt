@@ -1,6 +1,7 @@
 //! The steps of a cycle.
 
-ghost use Rattle.std.specs.Prelude.{◌≡◌, ◌+◌, ◌-◌, ◌*◌, ◌<◌, ◌≤◌, ◌^◌, ◌++◌, if◌then◌else◌, length, map, take, drop, OnOk, OnErr};
+ghost use Rattle.std.specs.Prelude.{◌≡◌, ◌+◌, ◌-◌, ◌*◌, ◌<◌, ◌≤◌, ◌^◌, ◌++◌, ◌&&◌, nat_lt, true, if◌then◌else◌, length, map, take, drop};
+ghost use Rattle.std.specs.Prelude.{OnOk, OnErr};
 ghost use Rattle.std.specs.Io.KnownBytes.{append_known};
 ghost use Rattle.circular_buffer.specs.Buffer.{buffer};
 ghost use Rattle.trace_code.specs.trace_model.declared.packet.TheConstants.{MOST_CYCLES};
@@ -9,18 +10,21 @@ ghost use Rattle.trace_code.specs.trace_model.Recording.{has_event};
 ghost use Rattle.trace_code.specs.trace_model.Row.{all_widths, IsOver};
 ghost use Rattle.trace_code.specs.Encoding.{end_mark, row_bytes};
 ghost use Rattle.room_ledger.specs.Gates.{drained, left};
-ghost use Rattle.room_ledger.specs.Ledger.{Emitted, MayEmit, Regranted};
+ghost use Rattle.room_ledger.specs.Ledger.{may_reset, Emitted, MayEmit, Regranted};
 ghost use Rattle.env_script.specs.Offered.{offers_on, AllFit};
+ghost use Rattle.env_script.specs.Resets.{is_due};
 ghost use Rattle.vidi_io.specs.Cause.{HasCause};
 ghost use Rattle.vidi_io.specs.Sink.{AppendsSome, Frame};
+ghost use Rattle.vidi_recorder.specs.Standing.{reset_bytes, IsRestarted};
 
 use crate::cells::Cells;
-use env_script::{Env, gather};
+use env_script::{Env, gather, is_due};
 use room_ledger::Room;
 use run_stage::Gated;
 use trace_code::trace_model::{Channels, Row};
-use trace_code::{end_mark, write_packet};
+use trace_code::{end_mark, write_packet, write_reset};
 use trace_store::Store;
+use vidi_io::vidi_bits::Numbers;
 use vidi_io::{Failed, Sink};
 
 /// Makes what is given in the next cycle: what the environment offers now, and the gates that are up.
@@ -48,7 +52,7 @@ pub(crate) fn keep(row: &Row, cycle: u32, channels: &Channels, cells: &mut Cells
     requires capacity { cells.old.store.capacity ≡ cells.old.room.capacity }
     requires few { cycle < MOST_CYCLES }
     requires end { cells.old.end ≤ cycle }
-    requires count { cells.old.packets ≤ 2 * cycle }
+    requires count { cells.old.packets ≤ 2 * cycle + 1 }
     ensures room { Emitted cells.old.room row.now.starts row.now.ends cells.new.room }
     ensures store { cells.new.store ≡ buffer
         (cells.old.store.items ++ row_bytes channels.now (cycle - cells.old.end) row.now) cells.old.store.capacity }
@@ -57,6 +61,7 @@ pub(crate) fn keep(row: &Row, cycle: u32, channels: &Channels, cells: &mut Cells
     ensures within { cells.new.room.used ≤ cells.old.room.capacity }
     ensures given { cells.new.given ≡ cells.old.given }
     ensures out { cells.new.out ≡ cells.old.out }
+    ensures resets { cells.new.resets ≡ cells.old.resets }
 {
     let len = write_packet(row, cycle - cells.end, channels, &mut cells.packet);
     let _len = cells.room.emit(row.starts, row.ends);
@@ -65,6 +70,49 @@ pub(crate) fn keep(row: &Row, cycle: u32, channels: &Channels, cells: &mut Cells
         cells.packets += 1;
         cells.end = cycle + 1;
     }
+}
+
+/// Whether a reset comes behind a cycle: there is a cycle behind it, the time of the next reset has come, and there is the permit.
+pub(crate) fn comes(cells: &Cells, resets: &Numbers, cycle: u32, cycles: u32) -> bool
+    requires { cycle < MOST_CYCLES }
+    ensures { result ≡ (nat_lt (cycle + 1) cycles && (is_due resets.now cells.now.resets (cycle + 1) && may_reset cells.now.room)) }
+{
+    cycle + 1 < cycles
+        && is_due(resets.as_slice(), cells.resets, cycle + 1)
+        && cells.room.may_reset()
+}
+
+/// Puts the packet of a reset behind a cycle into the store and the books, where one comes.
+#[tactic(auto, using(crate::proofs::Lengths::reset_room))]
+pub(crate) fn restart(cycle: u32, comes: bool, cells: &mut Cells)
+    requires may { comes ≡ true → may_reset cells.old.room ≡ true }
+    requires waits { length cells.old.store.items ≡ cells.old.room.used }
+    requires capacity { cells.old.store.capacity ≡ cells.old.room.capacity }
+    requires few { cycle < MOST_CYCLES }
+    requires end { cells.old.end ≤ cycle + 1 }
+    requires count { cells.old.packets ≤ 2 * cycle + 2 }
+    requires resets { cells.old.resets ≤ cycle + 1 }
+    requires within { cells.old.room.used ≤ cells.old.room.capacity }
+    ensures room { IsRestarted comes cells.old.room cells.new.room }
+    ensures store { cells.new.store ≡ buffer (cells.old.store.items ++ reset_bytes comes (cycle + 1 - cells.old.end)) cells.old.store.capacity }
+    ensures count { cells.new.packets ≡ cells.old.packets + (if comes then 1 else 0) }
+    ensures end { cells.new.end ≡ (if comes then cycle + 1 else cells.old.end) }
+    ensures resets { cells.new.resets ≡ cells.old.resets + (if comes then 1 else 0) }
+    ensures within { cells.new.room.used ≤ cells.old.room.capacity }
+    ensures fresh { cells.new.fresh ≡ comes }
+    ensures given { cells.new.given ≡ cells.old.given }
+    ensures out { cells.new.out ≡ cells.old.out }
+{
+    cells.fresh = comes;
+    if !comes {
+        return;
+    }
+    let len = write_reset(cycle + 1 - cells.end, &mut cells.packet);
+    let _len = cells.room.reset();
+    cells.store.put(&cells.packet[..len]);
+    cells.packets += 1;
+    cells.end = cycle + 1;
+    cells.resets += 1;
 }
 
 /// Pushes the first `n` bytes that wait, where there are any.

@@ -60,7 +60,7 @@ returns-clause-planned g c =
     let planned : IfOk c.plan_texts.result (λ p. ReadsStalls (read_lines stalls) (Ok p.plan)) =
     rw c.as_slice.ensures at c.plan_texts.ensures.planned in
     plan-said c.args.design.now c.args.map.now c.args.script.now c.args.stalls.now files texts.design texts.map texts.script stalls
-    c.plan_texts.result read.design read.map read.script stalls-read c.plan_texts.ensures.bench c.plan_texts.ensures.no_resets planned c.plan_texts.ensures.holds
+    c.plan_texts.result read.design read.map read.script stalls-read c.plan_texts.ensures.bench planned c.plan_texts.ensures.holds
 
 pub returns-clause-refused : goal.returns-clause-refused
 returns-clause-refused g c =

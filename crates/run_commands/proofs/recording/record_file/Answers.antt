@@ -19,7 +19,7 @@ returns-clause-ended g c =
     (fresh-over made.started files (F.files made.shelf.now) made.name.now to (F.read_faults made.shelf.now) before
     (F.starts made.shelf.now) first c.new-sink.ensures.fresh was c.new-sink.ensures.name reads (ap F.starts c.new-sink.ensures.shelf)) in
     if-ends c.record_run.result c.record_run.ensures.ok (λ o ends d s row runs.
-    ends-in-file (course d c.args.map.now (g.E.Env.offer (g.E.Env.plan c.args.env.now)) c.args.plan.now c.args.cycles)
+    ends-in-file (course d c.args.map.now (g.E.Env.offer (g.E.Env.plan c.args.env.now)) c.args.plan.now c.args.resets.now c.args.cycles)
     (g.S.Shell.runs c.record_run.new.shell) (g.E.Env.stands_for c.record_run.new.env) sink.started made.started files
     (F.files sink.shelf.now) (F.files made.shelf.now) _ to
     sink.name.now made.name.now (F.read_faults sink.shelf.now) before (F.starts sink.shelf.now) first _ o c.new-sink.ensures.fresh was
@@ -40,7 +40,7 @@ returns-clause-failed g c =
     (fresh-over made.started files (F.files made.shelf.now) made.name.now to (F.read_faults made.shelf.now) before
     (F.starts made.shelf.now) first c.new-sink.ensures.fresh was c.new-sink.ensures.name reads (ap F.starts c.new-sink.ensures.shelf)) in
     if-fails c.record_run.result c.record_run.ensures.err (λ e is fails d s row runs lawful.
-    fails-in-file (course d c.args.map.now (g.E.Env.offer (g.E.Env.plan c.args.env.now)) c.args.plan.now c.args.cycles)
+    fails-in-file (course d c.args.map.now (g.E.Env.offer (g.E.Env.plan c.args.env.now)) c.args.plan.now c.args.resets.now c.args.cycles)
     (g.S.Shell.runs c.record_run.new.shell) (g.E.Env.stands_for c.record_run.new.env) sink.started made.started files
     (F.files sink.shelf.now) (F.files made.shelf.now) _ to
     sink.name.now made.name.now (F.read_faults sink.shelf.now) before (F.starts sink.shelf.now) first _ e c.new-sink.ensures.fresh was

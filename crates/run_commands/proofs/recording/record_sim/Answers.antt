@@ -11,7 +11,7 @@ pub returns-clause-ended : goal.returns-clause-ended
 returns-clause-ended g c =
     let script = c.args.script.now in
     if-ends c.record_block.result c.record_block.ensures.ended (λ o ends.
-    subst (λ (d : Design). FileEnds (course d c.args.map.now (script_offer script) c.args.plan.now script.cycles)
+    subst (λ (d : Design). FileEnds (course d c.args.map.now (script_offer script) c.args.plan.now script.resets script.cycles)
     (g.S.Shelf.files c.args.shelf.now) c.args.trace.now (HasStarted (g.S.Shelf.starts c.args.shelf.now) (g.S.Shelf.starts c.record_block.new.shelf))
     (g.S.Shelf.files c.record_block.new.shelf) o) c.in_ok-sim.ensures.design ends)
 
@@ -19,6 +19,6 @@ pub returns-clause-failed : goal.returns-clause-failed
 returns-clause-failed g c =
     let script = c.args.script.now in
     if-fails c.record_block.result c.record_block.ensures.failed (λ e is fails.
-    subst (λ (d : Design). FileFails (course d c.args.map.now (script_offer script) c.args.plan.now script.cycles)
+    subst (λ (d : Design). FileFails (course d c.args.map.now (script_offer script) c.args.plan.now script.resets script.cycles)
     (g.S.Shelf.files c.args.shelf.now) c.args.trace.now (HasStarted (g.S.Shelf.starts c.args.shelf.now) (g.S.Shelf.starts c.record_block.new.shelf))
     (g.S.Shelf.files c.record_block.new.shelf) e) c.in_ok-sim.ensures.design fails)

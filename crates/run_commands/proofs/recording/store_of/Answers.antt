@@ -5,12 +5,12 @@ use Rattle.run_commands.proofs.recording.store_of.Goals as goal
 
 pub returns-in_err-plan-clause-refused : goal.returns-in_err-plan-clause-refused
 returns-in_err-plan-clause-refused c =
-    passed-as (IsNoPlan c.args.stalls.now) (RefusedStore c.args.stalls.now c.args.channels.now) c.in_err-plan.field-0.0
+    passed-as (IsNoPlan c.args.stalls.now) (RefusedStore c.args.stalls.now c.args.channels.now c.args.script.now) c.in_err-plan.field-0.0
     c.from_residual.result c.from_residual.ensures.1 (λ a x is. inl is) c.in_err-plan.ensures.refused
 
 pub returns-in_err-room-clause-refused : goal.returns-in_err-room-clause-refused
 returns-in_err-room-clause-refused c =
     let plan = c.in_ok-plan.plan in
-    passed-as (IsTooSmall c.args.channels.now plan) (RefusedStore c.args.stalls.now c.args.channels.now) c.in_err-room.field-0.0
+    passed-as (IsTooSmall c.args.channels.now c.args.script.now plan) (RefusedStore c.args.stalls.now c.args.channels.now c.args.script.now) c.in_err-room.field-0.0
     c.from_residual-in_err-room.result c.from_residual-in_err-room.ensures.1
     (λ a x is. inr (plan, c.in_ok-plan.ensures.planned, is)) c.in_err-room.ensures.refused

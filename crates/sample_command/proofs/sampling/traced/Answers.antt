@@ -18,7 +18,7 @@ returns-clause-traced c =
     let x = c.args.texts.now in
     let p = c.in_ok-planned.planned in
     let made = c.in_ok-planned.ensures in
-    traced-all x.design x.map x.script c.args.stalls.now p.bench p.plan made.bench made.no_resets made.planned made.holds c.recorded.result
+    traced-all x.design x.map x.script c.args.stalls.now p.bench p.plan made.bench made.planned made.holds c.recorded.result
     c.recorded.ensures.traced
 
 pub returns-clause-refused : goal.returns-clause-refused
@@ -27,5 +27,5 @@ returns-clause-refused c =
     let p = c.in_ok-planned.planned in
     let made = c.in_ok-planned.ensures in
     all-as (IsUnstable (course_of p.bench p.plan)) (IsUntraced x.design x.map x.script c.args.stalls.now) c.recorded.result
-    (unstable-texts x.design x.map x.script c.args.stalls.now p.bench p.plan made.bench made.no_resets made.planned made.holds)
+    (unstable-texts x.design x.map x.script c.args.stalls.now p.bench p.plan made.bench made.planned made.holds)
     c.recorded.ensures.refused

@@ -12,8 +12,8 @@ use Rattle.vidi_recorder.specs.declared.error.RecordError.{RecordError}
 use Rattle.vidi_recorder.specs.declared.error.RecordError.TheVariants.{WriteFault}
 use Rattle.vidi_recorder.specs.Course.{course}
 use Rattle.vidi_recorder.specs.Recording.{EndsWith, FailsWith, IsCutOff}
-use Rattle.env_script.proofs.Lasting.{offers-fit}
 use Rattle.vidi_recorder.proofs.Ends.{cut-as, ends-as}
+use Rattle.vidi_recorder.proofs.Runs.{fits-behind}
 use Rattle.vidi_recorder.proofs.Turns.{lasting}
 use Rattle.vidi_recorder.proofs.record.record_run.Goals as goal
 
@@ -32,16 +32,17 @@ returns-clause-ok g c d s before is =
     ∙ ap (λ t. append_known t (c.cells-3-1.given.0.store.items ++ end_mark c.cells-3-1.given.0.packets)) (ap g.K.Sink.told same_sink)
     ∙ ap (λ (x : Cells). append_known (g.K.Sink.told c.run.new.recorder.sink.now) (x.store.items ++ end_mark x.packets)) same_cells in
     subst (λ (stands_for : List Row → Type 0). EndsWith (course d c.args.map.now (g.E.Env.offer (g.E.Env.plan c.args.env.now))
-    c.args.stalls.now c.args.cycles) (g.S.Shell.runs c.run.new.shell) stands_for (g.K.Sink.told c.args.sink.now)
+    c.args.stalls.now c.args.resets.now c.args.cycles) (g.S.Shell.runs c.run.new.shell) stands_for (g.K.Sink.told c.args.sink.now)
     (g.K.Sink.told c.close.new.sink) c.in_ok-outcome.outcome) (ap g.E.Env.stands_for (sym same_env))
-    (ends-as (course d c.args.map.now (g.E.Env.offer (g.E.Env.plan c.args.env.now)) c.args.stalls.now c.args.cycles)
+    (ends-as (course d c.args.map.now (g.E.Env.offer (g.E.Env.plan c.args.env.now)) c.args.stalls.now c.args.resets.now c.args.cycles)
     (g.S.Shell.runs c.run.new.shell) (g.E.Env.stands_for c.run.new.recorder.env.now) played.0 (g.K.Sink.told c.args.sink.now)
-    (g.K.Sink.told c.run.new.recorder.sink.now) (g.K.Sink.told c.close.new.sink) ends.1 c.run.new.recorder.cells.now.room c.run.new.recorder.cells.now.store.items
+    (g.K.Sink.told c.run.new.recorder.sink.now) (g.K.Sink.told c.close.new.sink) ends.1 c.run.new.recorder.cells.now.fresh ends.2
+    c.run.new.recorder.cells.now.room c.run.new.recorder.cells.now.store.items
     c.run.new.recorder.cells.now.packets c.in_ok-outcome.outcome played.2 played.1 closed c.requires.table c.requires.few ends.0)
 
 pub returns-in_err-close-clause-err : goal.returns-in_err-close-clause-err
 returns-in_err-close-clause-err g c =
-    let w = λ (d : Design). course d c.args.map.now (g.E.Env.offer (g.E.Env.plan c.args.env.now)) c.args.stalls.now c.args.cycles in
+    let w = λ (d : Design). course d c.args.map.now (g.E.Env.offer (g.E.Env.plan c.args.env.now)) c.args.stalls.now c.args.resets.now c.args.cycles in
     let p = err_from_is_err_and c.from_residual-in_err-close.result c.from_residual-in_err-close.ensures.1 in
     let played = c.in_ok-outcome.ensures.ok in
     let same_env : c.env-1.given.0 ≡ c.run.new.recorder.env.now = search rules in
@@ -62,7 +63,8 @@ returns-in_err-close-clause-err g c =
     subst (λ (stands_for : List Row → Type 0). IsCutOff (w d) (g.S.Shell.runs c.run.new.shell) stands_for (g.K.Sink.told c.args.sink.now)
     (g.K.Sink.told c.close.new.sink)) (ap g.E.Env.stands_for (sym same_env))
     (cut-as (w d) (g.S.Shell.runs c.run.new.shell) (g.E.Env.stands_for c.run.new.recorder.env.now) played.0 (g.K.Sink.told c.args.sink.now)
-    (g.K.Sink.told c.run.new.recorder.sink.now) (g.K.Sink.told c.close.new.sink) ends.1 c.run.new.recorder.cells.now.room c.run.new.recorder.cells.now.store.items
+    (g.K.Sink.told c.run.new.recorder.sink.now) (g.K.Sink.told c.close.new.sink) ends.1 c.run.new.recorder.cells.now.fresh ends.2
+    c.run.new.recorder.cells.now.room c.run.new.recorder.cells.now.store.items
     c.run.new.recorder.cells.now.packets c.in_ok-outcome.outcome played.2 played.1 some
     (subst (IsMapped d) c.requires.mapped (g.met.S.Shell.ready c.args.shell.now d s before is))
-    (offers-fit c.args.map.now.channels (g.E.Env.offer (g.E.Env.plan c.args.env.now)) lasts) ends.0)))
+    (fits-behind c.args.map.now.channels (g.E.Env.offer (g.E.Env.plan c.args.env.now)) lasts) ends.0)))
