@@ -1,4 +1,6 @@
 pub mod Epochs
+pub mod Renumbered
+pub mod Stretched
 pub mod Forward
 pub mod Placing
 pub mod Fills
