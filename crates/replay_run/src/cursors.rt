@@ -1,6 +1,6 @@
 //! Cursors over the events of all channels of a trace, epoch by epoch.
 
-ghost use Rattle.std.specs.Prelude.{◌≡◌, ◌≢◌, ◌+◌, ◌<◌, ◌≤◌, ◌↔◌, ℕ, IsTrue, IfOk, length};
+ghost use Rattle.std.specs.Prelude.{◌≡◌, ◌≢◌, ◌+◌, ◌<◌, ◌≤◌, ◌↔◌, true, ℕ, IsTrue, IfOk, length};
 ghost use Rattle.std.specs.Int.{bit_at};
 ghost use Rattle.trace_code.specs.trace_model.declared.event.Kind.{Kind as OneKind};
 ghost use Rattle.trace_code.specs.trace_model.declared.trace.Trace.{Trace};
@@ -207,6 +207,13 @@ impl<'a> Cursors<'a> {
         self.ends.advance(ends, self.epoch);
     }
 
+    /// Whether no completion is left in the epoch, and each of these starts is of a channel in flight after the last row: bit c is channel c.
+    fn are_shown(&self, starts: u128, last: &Row) -> bool
+        ensures { IsTrue result ↔ ((self.now.ends.more ≡ 0) × ((c : ℕ) → has starts c ≡ true → is_in_flight last.now c ≡ true)) }
+    {
+        self.ends.more == 0 && without(starts, in_flight(last)) == 0
+    }
+
     /// Whether the epoch is the last one and has no further event on any channel; which are in flight the last row says.
     pub(crate) fn has_ended(&self, last: &Row) -> bool
         requires { (t : Trace) × (have : ℕ → ℕ) × AreBehind t have self.now }
@@ -214,9 +221,7 @@ impl<'a> Cursors<'a> {
             → IsTrue result ↔ ((self.now.epoch ≡ resets t.packets)
             × ((c : ℕ) → c < length t.channels → IsDone (epoch_at t self.now) have last.now c)) }
     {
-        self.ends.more == 0
-            && without(self.starts.more, in_flight(last)) == 0
-            && self.reset.at_end()
+        self.are_shown(self.starts.more, last) && self.reset.at_end()
     }
 
     /// Whether there is a next epoch and this one has no further event on any channel but starts of those that `inward` doesn't name; which are
@@ -227,9 +232,7 @@ impl<'a> Cursors<'a> {
             → IsTrue result ↔ ((self.now.epoch < resets t.packets)
             × ((c : ℕ) → c < length t.channels → IsShownOf inward (epoch_at t self.now) have last.now c)) }
     {
-        self.ends.more == 0
-            && without(self.starts.more & inward, in_flight(last)) == 0
-            && !self.reset.at_end()
+        self.are_shown(self.starts.more & inward, last) && !self.reset.at_end()
     }
 
     /// Goes on to the next epoch, which there is, before anything has completed in it: each cursor past the events that are left of this one, of
