@@ -1,5 +1,5 @@
 -- The feed that cursors give, piece by piece.
-use Rattle.std.proofs.Common.{◌≡◌, ◌≢◌, ◌⊎◌, ℕ, ◌+◌, ◌-◌, ◌*◌, ◌^◌, ◌<◌, ◌≤◌, min, Bool, true, false, not, ◌&&◌, List, [], ◌∷◌, ◌++◌, Option, Some, None}
+use Rattle.std.proofs.Common.{◌≡◌, ◌≢◌, ◌⊎◌, ℕ, suc, ◌+◌, ◌-◌, ◌*◌, ◌^◌, ◌<◌, ◌≤◌, min, Bool, true, false, not, ◌&&◌, List, [], ◌∷◌, ◌++◌, Option, Some, None}
 use Rattle.std.proofs.Common.{length, take, get_or, set, slice_get, inl, inr, refl, sym, ap, subst, ◌∙◌, arith, ⊎_elim, replicate}
 use Rattle.std.specs.Prelude.{◌↔◌, IfSome}
 use Rattle.std.specs.Int.{bit_at}
@@ -128,10 +128,11 @@ fed-end channels t e c n k new is more need = fed-at channels t e End c n k new 
     End≢Start : End ≡ Start → ⊥
     End≢Start e = cc
 
--- where there is no event
-pub fed-none : (channels : List Channel) (packets : List Packet) (kind : Kind) (c n : ℕ) (new : Feed) (r : Bool) → has new.more c ≡ false → r ≡ false
-    → ((r ≡ true) ↔ (n < count kind c packets)) → IsFeedAt channels packets kind c n new
-fed-none channels packets kind c n new r down f says = record {
+-- where there is no event, and the mask says so
+pub fed-none : (channels : List Channel) (packets : List Packet) (kind : Kind) (c n mask : ℕ) (old : Feed) (r : Bool) → has mask c ≡ false → r ≡ false
+    → ((r ≡ true) ↔ (n < count kind c packets))
+    → IsFeedAt channels packets kind c n (record { more = mask; needs = old.needs; contents = old.contents })
+fed-none channels packets kind c n mask old r down f says = record {
   more = (λ up. absurd (false≢true (sym down ∙ up)), λ l. absurd (none l));
   need = λ p packet at d l. absurd (none (nth-below (does kind c) packets n p packet at));
   content = λ p packet at e. absurd (none (nth-below (does kind c) packets n p packet at));
@@ -139,6 +140,20 @@ fed-none channels packets kind c n new r down f says = record {
   where
     none : n < count kind c packets → ⊥
     none l = false≢true (sym f ∙ says.1 l)
+
+pub next-of : (t : Trace) (e : ℕ) (kind other : Kind) (c n : ℕ) (k : Cursor) (r : Bool) → IsBehind t e kind c n k
+    → ((r ≡ true) ↔ (n < count kind c (epoch e t.packets))) → r ≡ true → kind ≡ other → IsNext t e other c n k
+next-of t e kind other c n k r is says up same =
+    subst (λ (i : Kind). IsNext t e i c n k) same (record { behind = is; there = says.0 up })
+
+-- a channel alone is said to have none
+pub unfed-over : (channels : List Channel) (c mask : ℕ) (old : Feed) → c < length channels → ((d : ℕ) → d ≢ c → has mask d ≡ has old.more d)
+    → IsFeedOver channels old → IsFeedOver channels (record { more = mask; needs = old.needs; contents = old.contents })
+unfed-over channels c mask old l others over = record {
+  more = still-below old.more mask c (length channels) l over.more others;
+  needs = over.needs;
+  contents = over.contents;
+}
 
 -- what was written of a channel's content
 pub record IsWrittenAt (channels : List Channel) (c at : ℕ) (old new : List ℕ) : Type 0 where
