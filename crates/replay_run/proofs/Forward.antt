@@ -41,7 +41,7 @@ total : (t : Trace) (e : ℕ) (kind : Kind) (c n : ℕ) (k : Cursor) → IsBehin
     → count k.kind k.channel t.packets ≡ count kind c t.packets
 total t e kind c n k is = ap (λ (i : Kind). count i k.channel t.packets) is.over.0 ∙ ap (λ d. count kind d t.packets) is.over.1
 
-walked : (t : Trace) (e : ℕ) (kind : Kind) (c n j p : ℕ) (packet : Packet) (k : Cursor) → IsBehind t e kind c n k
+pub walked : (t : Trace) (e : ℕ) (kind : Kind) (c n j p : ℕ) (packet : Packet) (k : Cursor) → IsBehind t e kind c n k
     → IsNth (does kind c) t.packets j p packet → IsNth (does k.kind k.channel) t.packets j p packet
 walked t e kind c n j p packet k is nth =
     subst (λ (i : Kind). IsNth (does i k.channel) t.packets j p packet) (sym is.over.0)
@@ -374,7 +374,7 @@ module _ (t : Trace) (have : ℕ → ℕ) (cursors : Cursors) (are : AreBehind t
   next-on kind c r mask e says = along (has mask c) r e says
 
   -- whether there is a later epoch
-  resets-are : count cursors.reset.kind cursors.reset.channel t.packets ≡ resets t.packets
+  pub resets-are : count cursors.reset.kind cursors.reset.channel t.packets ≡ resets t.packets
   resets-are = ap (λ (i : Kind). count i cursors.reset.channel t.packets) are.over.0
 
   abbrev pub SaysEnd : Bool → Type 0
@@ -459,50 +459,42 @@ module _ (t : Trace) (have : ℕ → ℕ) (cursors : Cursors) (are : AreBehind t
       (cases_Bool (has cursors.starts.more c))
 
 -- ---- what is asked of the cursors
-module _ (t : Trace) (have : ℕ → ℕ) (cursors : Cursors) (last : Row) (r : Bool) (are : AreBehind t have cursors)
-    (says : SaysEnd t have cursors are r) where
+-- what tells that all of the epoch is there
+module _ (t : Trace) (have : ℕ → ℕ) (cursors : Cursors) (last : Row) (are : AreBehind t have cursors) where
   abbrev Here-of : List Packet
   Here-of = epoch cursors.epoch t.packets
 
-  -- whether the epoch is the last one and all of it is there
-  pub ended-yes : cursors.ends.more ≡ 0 → ((c : ℕ) → has cursors.starts.more c ≡ true → is_in_flight last c ≡ true)
-      → (r ≡ true) ↔ ((cursors.epoch ≡ resets t.packets) × ((c : ℕ) → c < length t.channels → IsDone Here-of have last c))
-  ended-yes none flying = (
-    λ e. ((last-when t have cursors are r says).0 e, λ c l. record {
-      ends = ends-none t have cursors are none c l;
-      starts = starts-there t have cursors are last (λ _. true) none (λ d up _. flying d up) c l refl;
-    }),
-    λ (x : (cursors.epoch ≡ resets t.packets) × ((c : ℕ) → c < length t.channels → IsDone Here-of have last c)).
-        (last-when t have cursors are r says).1 x.0,
-  )
+  abbrev AllDone : Type 0
+  AllDone = (c : ℕ) → c < length t.channels → IsDone Here-of have last c
 
-  pub ended-shown : ((c : ℕ) → c < length t.channels → IsDone Here-of have last c)
-      → (cursors.ends.more ≡ 0) × ((c : ℕ) → has cursors.starts.more c ≡ true → is_in_flight last c ≡ true)
+  pub ended-shown : AllDone → (cursors.ends.more ≡ 0) × ((c : ℕ) → has cursors.starts.more c ≡ true → is_in_flight last c ≡ true)
   ended-shown all = (
     ends-done t have cursors are (λ c l. (all c l).ends),
     λ c up. starts-flying t have cursors are last (λ _. true) (λ d l _. (all d l).starts) c up refl,
   )
 
-  -- whether there is a later one and all of it is there that a replay has to show before
+  shown-ended : cursors.ends.more ≡ 0 → ((c : ℕ) → has cursors.starts.more c ≡ true → is_in_flight last c ≡ true) → AllDone
+  shown-ended none flying c l = record {
+    ends = ends-none t have cursors are none c l;
+    starts = starts-there t have cursors are last (λ _. true) none (λ d up _. flying d up) c l refl;
+  }
+
+  -- the same but for starts of channels that aren't inward
   module _ (inward asked : ℕ) (both : asked ≡ bit_and cursors.starts.more inward) where
+    abbrev AllShown : Type 0
+    AllShown = (c : ℕ) → c < length t.channels → IsShownOf inward Here-of have last c
+
     asked-is : (c : ℕ) → has asked c ≡ (has cursors.starts.more c && has inward c)
     asked-is c = ap (λ m. has m c) both ∙ has-and cursors.starts.more inward c
 
-    pub turns-yes : cursors.ends.more ≡ 0 → ((c : ℕ) → has asked c ≡ true → is_in_flight last c ≡ true)
-        → (not r ≡ true) ↔ ((cursors.epoch < resets t.packets)
-        × ((c : ℕ) → c < length t.channels → IsShownOf inward Here-of have last c))
-    turns-yes none flying = (
-      λ e. ((later-when t have cursors are r says).0 e, λ c l. record {
-        ends = ends-none t have cursors are none c l;
-        starts = λ up. starts-there t have cursors are last (has inward) none
-            (λ d more on. flying d (asked-is d ∙ ap (λ b. b && has inward d) more ∙ on)) c l up;
-      }),
-      λ (x : (cursors.epoch < resets t.packets) × ((c : ℕ) → c < length t.channels → IsShownOf inward Here-of have last c)).
-          (later-when t have cursors are r says).1 x.0,
-    )
+    shown-inward : cursors.ends.more ≡ 0 → ((c : ℕ) → has asked c ≡ true → is_in_flight last c ≡ true) → AllShown
+    shown-inward none flying c l = record {
+      ends = ends-none t have cursors are none c l;
+      starts = λ up. starts-there t have cursors are last (has inward) none
+          (λ d more on. flying d (asked-is d ∙ ap (λ b. b && has inward d) more ∙ on)) c l up;
+    }
 
-    pub turns-shown : ((c : ℕ) → c < length t.channels → IsShownOf inward Here-of have last c)
-        → (cursors.ends.more ≡ 0) × ((c : ℕ) → has asked c ≡ true → is_in_flight last c ≡ true)
+    pub turns-shown : AllShown → (cursors.ends.more ≡ 0) × ((c : ℕ) → has asked c ≡ true → is_in_flight last c ≡ true)
     turns-shown all = (
       ends-done t have cursors are (λ c l. (all c l).ends),
       λ c up. (let w = and-both (has cursors.starts.more c) (has inward c) (sym (asked-is c) ∙ up) in
@@ -512,3 +504,38 @@ module _ (t : Trace) (have : ℕ → ℕ) (cursors : Cursors) (last : Row) (r : 
         and-both : (a b : Bool) → (a && b) ≡ true → (a ≡ true) × (b ≡ true)
         and-both true b e = (refl, e)
         and-both false b e = absurd (false≢true e)
+
+module _ (t : Trace) (have : ℕ → ℕ) (cursors : Cursors) (last : Row) (r : Bool) (are : AreBehind t have cursors)
+    (says : SaysEnd t have cursors are r) where
+  -- whether the epoch is the last one and all of it is there
+  pub ended-yes : cursors.ends.more ≡ 0 → ((c : ℕ) → has cursors.starts.more c ≡ true → is_in_flight last c ≡ true)
+      → (r ≡ true) ↔ ((cursors.epoch ≡ resets t.packets) × AllDone t have cursors last are)
+  ended-yes none flying = (
+    λ e. ((last-when t have cursors are r says).0 e, shown-ended t have cursors last are none flying),
+    λ (x : (cursors.epoch ≡ resets t.packets) × AllDone t have cursors last are). (last-when t have cursors are r says).1 x.0,
+  )
+
+  -- whether there is a later one and all of it is there that a replay has to show before
+  pub turns-yes : (inward asked : ℕ) (both : asked ≡ bit_and cursors.starts.more inward) → cursors.ends.more ≡ 0
+      → ((c : ℕ) → has asked c ≡ true → is_in_flight last c ≡ true)
+      → (not r ≡ true) ↔ ((cursors.epoch < resets t.packets) × AllShown t have cursors last are inward asked both)
+  turns-yes inward asked both none flying = (
+    λ e. ((later-when t have cursors are r says).0 e, shown-inward t have cursors last are inward asked both none flying),
+    λ (x : (cursors.epoch < resets t.packets) × AllShown t have cursors last are inward asked both). (later-when t have cursors are r says).1 x.0,
+  )
+
+-- ---- the next epoch
+module _ (t : Trace) (have : ℕ → ℕ) (cursors : Cursors) (are : AreBehind t have cursors)
+    (ends : (c : ℕ) → c < length t.channels → count End c (epoch cursors.epoch t.packets) ≤ have c) where
+  on : suc cursors.epoch ≡ cursors.epoch + 1
+  on = omega arith
+
+  -- the starts that are left are passed
+  pub starts-next : (new : List Cursor) (mask : ℕ) → AreAt t cursors.epoch Start (λ d. have d + bit_at cursors.starts.more d) new mask
+      → HasCursors t (cursors.epoch + 1) Start none_yet new
+  starts-next new mask at = subst (λ e. HasCursors t e Start none_yet new) on
+      (all-turned t cursors.epoch Start (λ d. have d + bit_at cursors.starts.more d) new at.all (starts-past t have cursors are ends))
+
+  pub ends-next : HasCursors t (cursors.epoch + 1) End none_yet cursors.ends.cursors.items
+  ends-next = subst (λ e. HasCursors t e End none_yet cursors.ends.cursors.items) on
+      (all-turned t cursors.epoch End have cursors.ends.cursors.items are.ends.all ends)

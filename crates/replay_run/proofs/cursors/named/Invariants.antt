@@ -11,6 +11,6 @@ use Rattle.replay_run.proofs.cursors.named.Given as goal
 abbrev pub invariant-loop-c : goal.invariant-loop-c
 invariant-loop-c l = record {
   below : l.more < 2 ^ l.c;
-  named : (t : Trace) (kind : Kind) (have : ℕ → ℕ) → HasCursors t l.epoch kind have l.cursors.now → (d : ℕ) → d < l.c
+  named : (t : Trace) (kind : Kind) (have : ℕ → ℕ) → HasCursors t l.epoch kind have l.cursors → (d : ℕ) → d < l.c
       → (has l.more d ≡ true) ↔ (have d < count kind d (epoch l.epoch t.packets));
 }
