@@ -27,7 +27,8 @@ use Rattle.replay_run.specs.Lists.{IsKept}
 use Rattle.replay_run.specs.Replaying.{held_behind, waits_behind, EndsAs, IsReplayed}
 use Rattle.replay_run.specs.Standing.{epoch_rule, AreKept, TurnsBehind}
 use Rattle.replay_run.proofs.Playing.{balance, flight-last}
-use Rattle.replay_run.proofs.Stretched.{ends-contents, ends-encoded, ends-free, ends-order}
+use Rattle.replay_run.proofs.Stretched.{ends-contents, ends-encoded, ends-free, ends-order, ends-played}
+use Rattle.replay_run.proofs.Prefix.{prefixes}
 
 -- what is kept is what the lists are made of
 pub kept-rows : (d : Design) (m : Map) (packets : List Packet) (runs : Design → Values → List Row → List Row → Type 0) (past : List (List Row))
@@ -77,6 +78,8 @@ replayed d m t n runs last past here answer same has small at ends out = record 
   driven = at.played.last.driven;
   stands = at.at;
   order = ends-order d m t.packets n past here answer.outcome ends;
+  prefixes = prefixes d m t.packets past here (ends-played d m t.packets n past here answer.outcome ends).played
+      (ends-order d m t.packets n past here answer.outcome ends) (well-formed t m.channels same has).packets;
   contents = ends-contents d m t.packets n past here answer.outcome ends;
   free = ends-free d m t.packets n past here answer.outcome (well-formed t m.channels same has) ends;
 }

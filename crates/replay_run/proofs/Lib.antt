@@ -1,10 +1,13 @@
 pub mod Epochs
+pub mod Renumbered
+pub mod Stretched
 pub mod Forward
 pub mod Placing
 pub mod Fills
 pub mod Listing
 pub mod Writing
 pub mod Playing
+pub mod Prefix
 pub mod Answering
 pub mod Replays
 pub mod Fronts
