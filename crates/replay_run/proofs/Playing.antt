@@ -1,6 +1,6 @@
 -- The player of a replay, over plain values.
 use Rattle.std.proofs.Common.{◌≡◌, ℕ, ◌+◌, ◌-◌, ◌<◌, ◌≤◌, ◌&&◌, ◌==◌, Bool, true, false, not, cond, List, [], ◌∷◌, ◌++◌, Option, Some, None}
-use Rattle.std.proofs.Common.{length, take, slice_get, refl, ap, sym, subst, ◌∙◌, arith, ⊎_elim}
+use Rattle.std.proofs.Common.{length, take, slice_get, refl, ap, sym, subst, ◌∙◌, append_assoc, arith, ⊎_elim}
 use Rattle.std.proofs.Math.Logic.{∥∥₁_elim, ∥∥₁_map}
 use Rattle.std.proofs.Props.{props}
 use Rattle.std.specs.Int.{bit_at}
@@ -33,7 +33,7 @@ use Rattle.run_stage.specs.chan_replayer.Shell.{IsRunning}
 use Rattle.run_stage.specs.run_model.Held.{flies}
 use Rattle.run_stage.specs.run_model.Played.{AreStable, IsPlayed, StopsBefore}
 use Rattle.run_stage.specs.run_model.Replay.{done, HasEnded, IsReplayStretch}
-use Rattle.run_stage.specs.run_model.Stretches.{IsTurned, IsUnturned}
+use Rattle.run_stage.specs.run_model.Stretches.{IsTurned, IsUnturned, rows_of}
 use Rattle.run_stage.specs.Playing.{Begins, IsLast}
 use Rattle.run_stage.specs.Stretching.{all_rows, ArePlayed, AreRuledStretches, HaveCome, PlayStretches}
 use Rattle.run_stage.proofs.run_model_lemmas.ReplayLaws.{replay-keeps}
@@ -250,3 +250,6 @@ kept-here first feeder past here is =
 pub room-left : (most : ℕ) (past : List (List Row)) (here : List Row) (row : Row) → length (all_rows past here) < most
     → most - length (all_rows past here) ≡ (most - length (all_rows past (here ++ row ∷ []))) + 1
 room-left most past here row l = let e = all-longer past here row in omega (arith, l, e)
+
+pub more-rows : (past : List (List Row)) (here : List Row) (row : Row) → all_rows past here ++ row ∷ [] ≡ all_rows past (here ++ row ∷ [])
+more-rows past here row = append_assoc (rows_of past) here (row ∷ [])
