@@ -1,14 +1,14 @@
 -- The player of a replay, over plain values.
-use Rattle.std.proofs.Common.{◌≡◌, ℕ, ◌+◌, ◌-◌, ◌<◌, ◌≤◌, ◌&&◌, ◌==◌, Bool, true, false, not, cond, List, [], ◌∷◌, ◌++◌, Option, Some, None}
+use Rattle.std.proofs.Common.{◌≡◌, ℕ, ◌+◌, ◌-◌, ◌*◌, ◌^◌, ◌<◌, ◌≤◌, ◌&&◌, ◌==◌, Bool, true, false, not, cond, List, [], ◌∷◌, ◌++◌, Option, Some, None}
 use Rattle.std.proofs.Common.{length, take, slice_get, refl, ap, sym, subst, ◌∙◌, append_assoc, arith, ⊎_elim}
 use Rattle.std.proofs.Math.Logic.{∥∥₁_elim, ∥∥₁_map}
 use Rattle.std.proofs.Props.{props}
 use Rattle.std.specs.Int.{bit_at}
 use Rattle.std.specs.Prelude.{◌↔◌, get_or}
-use Rattle.std.proofs.lemmas.Bool.{false≢true}
+use Rattle.std.proofs.lemmas.Bool.{cases_eq, false≢true}
 use Rattle.std.proofs.lemmas.List.{take_all}
 use Rattle.std.proofs.lemmas.Nat.Bits.{bit_at-zero}
-use Rattle.std.proofs.lemmas.Option.{slice_get_cases, slice_get_within}
+use Rattle.std.proofs.lemmas.Option.{same_Some, slice_get_cases, slice_get_read, slice_get_within}
 use Rattle.trace_code.specs.vidi_bits.Number.{has}
 use Rattle.trace_code.specs.trace_model.declared.channel.Channel.{Channel}
 use Rattle.trace_code.specs.trace_model.declared.channel.Dir.TheVariants.{Inward}
@@ -36,6 +36,7 @@ use Rattle.run_stage.specs.run_model.Replay.{done, HasEnded, IsReplayStretch}
 use Rattle.run_stage.specs.run_model.Stretches.{IsTurned, IsUnturned, rows_of}
 use Rattle.run_stage.specs.Playing.{Begins, IsLast}
 use Rattle.run_stage.specs.Stretching.{all_rows, ArePlayed, AreRuledStretches, HaveCome, PlayStretches}
+use Rattle.run_stage.proofs.chan_replayer_lemmas.FedOffers.{other-bit, top-bit}
 use Rattle.run_stage.proofs.run_model_lemmas.ReplayLaws.{replay-keeps}
 use Rattle.run_stage.proofs.run_model_lemmas.Stays.{keeps-in-flight}
 use Rattle.run_stage.proofs.Stretching.{all-longer}
@@ -253,3 +254,34 @@ room-left most past here row l = let e = all-longer past here row in omega (arit
 
 pub more-rows : (past : List (List Row)) (here : List Row) (row : Row) → all_rows past here ++ row ∷ [] ≡ all_rows past (here ++ row ∷ [])
 more-rows past here row = append_assoc (rows_of past) here (row ∷ [])
+
+-- the mask of inward channels, one channel longer
+pub inward-more : (channels : List Channel) (c mask new : ℕ) (y : Channel) (r : Bool) → mask < 2 ^ c → c < length channels → y ≡ get_or channels c y
+    → new ≡ cond r 1 0 * 2 ^ c + mask → ((r ≡ true) ↔ (y.dir ≡ Inward))
+    → ((d : ℕ) (x : Channel) → d < c → slice_get channels d ≡ Some x → (has mask d ≡ true) ↔ (x.dir ≡ Inward))
+    → (d : ℕ) (x : Channel) → d < c + 1 → slice_get channels d ≡ Some x → (has new d ≡ true) ↔ (x.dir ≡ Inward)
+inward-more channels c mask new y r small l is e says each d x below at = ⊎_elim
+    (λ (here : d ≡ c).
+    let own : y ≡ x = same_Some y x (sym (slice_get_read channels (length channels) c y refl l is) ∙ ap (slice_get channels) (sym here) ∙ at) in
+    let bit : has new d ≡ r = ap (λ m. has m d) e ∙ ap (λ i. has (cond r 1 0 * 2 ^ c + mask) i) here ∙ top-bit r c mask small in (
+      λ up. ap (λ (z : Channel). z.dir) (sym own) ∙ says.0 (sym bit ∙ up),
+      λ dir. bit ∙ says.1 (ap (λ (z : Channel). z.dir) own ∙ dir),
+    ))
+    (λ (ne : d ≡ c → ⊥).
+    let bit : has new d ≡ has mask d = ap (λ m. has m d) e ∙ other-bit r c mask d small ne in
+    let was = each d x (omega (arith, below, ne)) at in (
+      λ up. was.0 (sym bit ∙ up),
+      λ dir. bit ∙ was.1 dir,
+    ))
+    (cases_eq d c)
+
+-- a reset may come: told by the cursors
+pub turn-said : (first feeder : Feeder) (past : List (List Row)) (here : List Row) (last : Row) → (stands : StandsBehind first feeder past here)
+    → AreRuledStretches first.map.now (IsNextRow first) (IsTurn first) past here → IsLast (row_before here (length here)) last → (r : Bool)
+    → ((r ≡ true) ↔ ((feeder.cursors.epoch < resets stands.trace.packets) × ((c : ℕ) → c < length stands.trace.channels
+    → IsShownOf feeder.inward (epoch feeder.cursors.epoch stands.trace.packets) (done here) last c)))
+    → (r ≡ true) ↔ TurnsBehind first.map.now.channels stands.trace.packets past here
+turn-said first feeder past here last stands ruled last_is r says =
+    turns-now first.map.now stands.trace.packets past here last (some-stretch first first.map.now refl stands.trace stands.encodes past here ruled)
+    ruled.stable.last last_is feeder.cursors.epoch stands.at.epoch_is r (length stands.trace.channels) feeder.inward
+    (ap length stands.at.same ∙ ap (λ (m : Map). length m.channels) stands.map) stands.kept.inward says
