@@ -33,18 +33,21 @@ use Rattle.run_stage.specs.chan_replayer.Shell.{IsRunning}
 use Rattle.run_stage.specs.run_model.Held.{flies}
 use Rattle.run_stage.specs.run_model.Played.{AreStable, IsPlayed, StopsBefore}
 use Rattle.run_stage.specs.run_model.Replay.{done, HasEnded, IsReplayStretch}
-use Rattle.run_stage.specs.run_model.Stretches.{IsTurned, IsUnturned, rows_of}
+use Rattle.run_stage.specs.run_model.Stretches.{IsTurned, IsUnturned, and_stretch, rows_of}
 use Rattle.run_stage.specs.Playing.{Begins, IsLast}
-use Rattle.run_stage.specs.Stretching.{all_rows, ArePlayed, AreRuledStretches, HaveCome, PlayStretches}
+use Rattle.run_stage.specs.declared.ending.Ending.{Ending}
+use Rattle.run_stage.specs.declared.ending.Ending.TheVariants.{Done, Unstable, Whole}
+use Rattle.run_stage.specs.Stretching.{all_rows, ArePlayed, AreRuledStretches, CameBehind, HaveCome, PlayStretches, StopIn}
 use Rattle.run_stage.proofs.chan_replayer_lemmas.FedOffers.{other-bit, top-bit}
 use Rattle.run_stage.proofs.run_model_lemmas.ReplayLaws.{replay-keeps}
 use Rattle.run_stage.proofs.run_model_lemmas.Stays.{keeps-in-flight}
 use Rattle.run_stage.proofs.Stretching.{all-longer}
 use Rattle.replay_run.specs.declared.feeder.Feeder.{Feeder}
 use Rattle.replay_run.specs.Behind.{IsDone, IsShownOf}
-use Rattle.replay_run.specs.Ended.{HasEndedIn, IsGoingOn}
-use Rattle.replay_run.specs.Standing.{epoch_rule, AreKept, IsAt, IsNextRow, IsTurn, SaysEnded, StandsBehind, TurnsBehind}
+use Rattle.replay_run.specs.Ended.{AreTraceReplay, HasEndedIn, IsGoingOn}
+use Rattle.replay_run.specs.Standing.{epoch_rule, AreKept, IsAt, IsNextRow, IsTurn, PlaysTo, SaysEnded, StandsBehind, TurnsBehind}
 use Rattle.replay_run.proofs.Epochs.{epoch-plain}
+use Rattle.replay_run.proofs.Replays.{stops-behind, trace-replay}
 
 -- ---- a shell that was reset
 pub has-begun : (m given : Map) (was runs : Design → Values → List Row → Type 0) → given ≡ m → ∥ IsRunning was ∥₁
@@ -162,7 +165,7 @@ module _ (m : Map) (packets : List Packet) (past : List (List Row)) (here : List
 
 -- ---- the rows of one trace
 module _ (first : Feeder) (m : Map) (same : first.map.now ≡ m) (t : Trace) (encodes : Encodes t first.bytes.now) where
-  abbrev played-of : (d : Design) (past : List (List Row)) (rows : List Row) → IsPlayed d m (IsNextRow first past) rows
+  abbrev pub played-of : (d : Design) (past : List (List Row)) (rows : List Row) → IsPlayed d m (IsNextRow first past) rows
       → IsPlayed d m (epoch_rule m.channels t.packets past) rows
   played-of d past rows played = record {
     marked = played.marked;
@@ -178,11 +181,11 @@ module _ (first : Feeder) (m : Map) (same : first.map.now ≡ m) (t : Trace) (en
       subst (λ (v : Trace). TurnsBehind first.map.now.channels v.packets past here) (one_reading first.bytes.now t u encodes reads)
       (subst (λ (b : Map). TurnsBehind b.channels t.packets past here) (sym same) h)
 
-  unturned-of : (past : List (List Row)) (here : List Row) → IsUnturned (IsTurn first) past here
+  pub unturned-of : (past : List (List Row)) (here : List Row) → IsUnturned (IsTurn first) past here
       → IsUnturned (TurnsBehind m.channels t.packets) past here
   unturned-of past here un k some l h = un k some l (turn-back past (take k here) h)
 
-  abbrev are-played-of : (d : Design) (past : List (List Row)) (here : List Row) → ArePlayed d m (IsNextRow first) (IsTurn first) past here
+  abbrev pub are-played-of : (d : Design) (past : List (List Row)) (here : List Row) → ArePlayed d m (IsNextRow first) (IsTurn first) past here
       → ArePlayed d m (epoch_rule m.channels t.packets) (TurnsBehind m.channels t.packets) past here
   are-played-of d past here are = record {
     before = λ k rows at. (let b = are.before k rows at in
@@ -233,6 +236,42 @@ module _ (first : Feeder) (m : Map) (same : first.map.now ≡ m) (t : Trace) (en
     going = λ k l asked. not-ended past (take k here) (come.going k l asked);
     before = λ i rows at k l asked. not-ended (take i past) (take k rows) (come.before i rows at k l asked);
   }
+
+  -- how it ends
+  module _ (d : Design) (runs : Design → Values → List Row → List Row → Type 0) (last : Row) (n : ℕ) (past : List (List Row)) (here : List Row)
+      (come : HaveCome (SaysEnded first) n past here) (at : PlayStretches d m (IsNextRow first) (IsTurn first) runs last past here) where
+    replay-so_far : AreTraceReplay d m t.packets (and_stretch past here)
+    replay-so_far = trace-replay d m t.packets past here (are-played-of d past here at.played) come.asked
+
+    pub plays-to : (ending : Ending) → CameBehind (SaysEnded first) n past here ending
+        → StopIn d m (IsNextRow first) (IsTurn first) past here ending → PlaysTo d m t.packets n past here ending
+    plays-to Whole came stops = record {
+      played = replay-so_far;
+      stable = at.stable;
+      all = came.0;
+      going = going n past here come;
+      not_ended = not-ended past here came.1;
+    }
+    plays-to (Done cycles) came stops = (
+      record {
+        played = replay-so_far;
+        stable = at.stable;
+        within = come.within;
+        ended = (says-here past here true came.1).0 refl;
+        shortest = going n past here come;
+      },
+      sym came.0,
+    )
+    plays-to (Unstable channel cycle) came stops = (
+      record {
+        stops = stops-behind d m t.packets past here (are-played-of d past here at.played) channel at.stable.before
+            (stops-of d past here channel stops.0) (λ some turns. stops.1 some (turn-back past here turns));
+        within = came.1;
+        going = going n past here come;
+        not_ended = not-ended past here came.2;
+      },
+      sym came.0,
+    )
 
 -- ---- one row more
 pub done-push : (rows : List Row) (row : Row) (ends : ℕ) → ends ≡ row.ends → (λ (c : ℕ). done rows c + bit_at ends c) ≡ done (rows ++ row ∷ [])
