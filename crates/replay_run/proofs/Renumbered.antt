@@ -1,5 +1,5 @@
 -- What is held back of an epoch and waited for in it is that of the first epoch, but for the number of the epoch.
-use Rattle.std.proofs.Common.{◌≡◌, ℕ, ◌==◌, ◌&&◌, ◌||◌, Bool, true, false, cond, not, List, [], ◌∷◌, ◌++◌, Option, None, Some, map, refl}
+use Rattle.std.proofs.Common.{◌≡◌, ℕ, ◌==◌, ◌&&◌, ◌||◌, Bool, true, false, cond, not, List, [], ◌∷◌, ◌++◌, Option, None, Some, length, map, refl}
 use Rattle.std.proofs.Common.{sym, ap, ◌∙◌, eq-eqb}
 use Rattle.std.specs.Prelude.{is_some}
 use Rattle.std.specs.List.{enumerate_from, filter, flat_map, list_any}
@@ -16,7 +16,7 @@ use Rattle.trace_code.specs.trace_model.Recording.{shown}
 use Rattle.run_stage.specs.run_model.declared.held.Await.{Await}
 use Rattle.run_stage.specs.run_model.declared.held.Held.{Held}
 use Rattle.run_stage.specs.run_model.Held.{awaits, controlled_in, event_in, flies, held_at, held_event, held_if, held_in, is_held, next_event_in}
-use Rattle.run_stage.specs.run_model.Held.{packet_place, recorded_next_in, same_kind, waits_in}
+use Rattle.run_stage.specs.run_model.Held.{packet_place, recorded_next_in, same_event, same_kind, waits_in}
 use Rattle.run_stage.specs.run_model.Replay.{done}
 
 -- the same event of this epoch

@@ -1,5 +1,5 @@
 -- What holds of the stretches of a replay, however it ends.
-use Rattle.std.proofs.Common.{◌≡◌, ℕ, zero, suc, ◌+◌, ◌-◌, ◌<◌, ◌≤◌, nat_lt, ◌&&◌, Bool, true, false, cond, List, [], ◌∷◌, ◌++◌, None, Some, All}
+use Rattle.std.proofs.Common.{◌≡◌, ℕ, zero, suc, ◌+◌, ◌-◌, ◌<◌, ◌≤◌, nat_lt, ◌⊎◌, ◌&&◌, Bool, true, false, cond, List, [], ◌∷◌, ◌++◌, Option, None, Some, All}
 use Rattle.std.proofs.Common.{append_assoc, drop, fold, get_or, length, map, slice_get, take, inl, inr, refl, ap, sym, subst, ◌∙◌, ⊎_elim, arith}
 use Rattle.std.proofs.Math.Bool.{and-false}
 use Rattle.std.specs.Prelude.{Contains}
@@ -38,21 +38,21 @@ use Rattle.run_laws.proofs.StretchLaws.{no-circle_in_stretches, order-in_stretch
 use Rattle.run_stage.specs.chan_map.declared.pins.Map.{Map}
 use Rattle.run_stage.specs.run_model.declared.held.Await.{Await}
 use Rattle.run_stage.specs.run_model.declared.held.Held.{Held}
-use Rattle.run_stage.specs.run_model.Held.{awaits, held_if, held_in, held_reset, reset_event, waits_in, waits_reset}
+use Rattle.run_stage.specs.run_model.Held.{awaits, held_if, held_in, held_reset, packet_place, reset_event, waits_in, waits_reset}
 use Rattle.run_stage.specs.run_model.Laws.{AreInOrder, ContentsStay, IsFirstOpen, IsFree, IsIn}
 use Rattle.run_stage.specs.run_model.Played.{AreStable, is_fresh_after}
-use Rattle.run_stage.specs.run_model.Replay.{done, IsEpochRow}
+use Rattle.run_stage.specs.run_model.Replay.{done, HasEnded, IsEpochRow}
 use Rattle.run_stage.specs.run_model.Stretches.{and_stretch, rows_of, AreReplayed, AreStretches, IsEpochReplay, IsLastEpoch, TurnsEpoch}
-use Rattle.run_stage.specs.Stretching.{all_rows}
+use Rattle.run_stage.specs.Stretching.{all_rows, AllAreStable}
 use Rattle.run_stage.proofs.run_model_lemmas.EventPlaces.{place-is}
 use Rattle.run_stage.proofs.run_model_lemmas.PlayedLaws.{played-front, row-before_take, within}
 use Rattle.run_stage.proofs.run_model_lemmas.ReplayLaws.{replay-keeps}
 use Rattle.run_stage.proofs.run_model_lemmas.Stays.{keeps-in-flight}
 use Rattle.replay_run.specs.declared.outcome.ReplayOutcome.{ReplayOutcome}
 use Rattle.replay_run.specs.declared.outcome.ReplayOutcome.TheVariants.{Ended, Short, Unstable}
-use Rattle.replay_run.specs.Ended.{AreTraceReplay}
+use Rattle.replay_run.specs.Ended.{AreShortReplay, AreTraceReplay, HasEndedIn}
 use Rattle.replay_run.specs.Epochs.{epochs}
-use Rattle.replay_run.specs.Replaying.{AreInOrderOf, EndsAs, GoesInNoCircle, IsUnheld, held_behind}
+use Rattle.replay_run.specs.Replaying.{AreInOrderOf, EndsAs, GoesInNoCircle, IsUnheld, held_behind, waits_behind}
 use Rattle.replay_run.proofs.Epochs.{epoch-all, epoch-plain, epochs-get, epochs-long}
 use Rattle.replay_run.proofs.Renumbered.{held-in, held-numbered, numbered, waits-in}
 
