@@ -1,41 +1,30 @@
 -- What holds of every replay, said of the three files.
-use Rattle.std.proofs.Common.{◌≡◌, ℕ, suc, ◌<◌, ◌≤◌, List, [], ◌∷◌, ◌++◌, Some, drop, get_or, length, map, slice_get, take, refl, sym, ap, subst}
-use Rattle.std.proofs.Common.{◌∙◌, arith, ⊎_elim}
-use Rattle.std.specs.List.{filter}
+use Rattle.std.proofs.Common.{◌≡◌, ℕ, suc, ◌<◌, ◌≤◌, List, [], Some, get_or, length, slice_get, refl, sym, subst, ◌∙◌, arith, ⊎_elim}
 use Rattle.std.proofs.lemmas.Bool.{cases_lt}
-use Rattle.std.proofs.lemmas.List.{flat_map_more, length-map, length_push, take_all}
-use Rattle.std.proofs.lemmas.List.Sums.{length-filter}
-use Rattle.std.proofs.lemmas.Option.{same_Some, slice_get-get_or}
+use Rattle.std.proofs.lemmas.List.{flat_map_more, length_push}
+use Rattle.std.proofs.lemmas.Option.{slice_get-get_or}
 use Rattle.vidi_commands.specs.trace_model.declared.channel.Channel.{Channel}
-use Rattle.vidi_commands.specs.trace_model.declared.channel.Dir.TheVariants.{Inward}
-use Rattle.vidi_commands.specs.trace_model.declared.event.Kind.TheVariants.{Start}
 use Rattle.vidi_commands.specs.trace_model.declared.packet.Packet.{Packet}
 use Rattle.vidi_commands.specs.trace_model.declared.row.Row.{Row}
 use Rattle.vidi_commands.specs.trace_model.Epoch.{epoch, resets}
-use Rattle.vidi_commands.specs.trace_model.Packet.{content_of, count, does}
-use Rattle.vidi_commands.specs.trace_model.Recording.{packets_from, packets_of, recorded, shown, trace_of}
+use Rattle.vidi_commands.specs.trace_model.Recording.{packets_from, trace_of}
 use Rattle.vidi_commands.specs.trace_model.Trace.{IsWellFormed}
-use Rattle.vidi_commands.proofs.trace_model_lemmas.RowLaws.{same-counts}
 use Rattle.vidi_commands.specs.trace_code.Encoding.{HasEncoding}
 use Rattle.net_design.specs.declared.design.Design.{Design}
 use Rattle.vidi_commands.specs.chan_map.declared.pins.Map.{Map}
 use Rattle.vidi_commands.specs.run_model.Laws.{AreInOrder}
-use Rattle.vidi_commands.specs.run_model.Stretches.{and_stretch, rows_of, AreStretches, IsDone, IsEpochReplay, TurnsEpoch}
+use Rattle.vidi_commands.specs.run_model.Stretches.{and_stretch, rows_of}
 use Rattle.vidi_commands.specs.replay_run.declared.outcome.ReplayOutcome.{ReplayOutcome}
 use Rattle.vidi_commands.specs.replay_run.declared.outcome.ReplayOutcome.TheVariants.{Ended, Short, Unstable}
 use Rattle.vidi_commands.specs.replay_run.Epochs.{epochs}
-use Rattle.vidi_commands.specs.replay_run.Replaying.{EndsAs}
+use Rattle.vidi_commands.specs.replay_run.Replaying.{ArePrefixes, EndsAs}
 use Rattle.vidi_commands.specs.replay_run.run_stage.Stretching.{all_rows}
-use Rattle.vidi_commands.proofs.replay_run_lemmas.Epochs.{epoch-past, epochs-get, epochs-long}
+use Rattle.vidi_commands.proofs.replay_run_lemmas.Epochs.{epoch-past, epochs-long}
+use Rattle.vidi_commands.proofs.replay_run_lemmas.Prefix.{prefixes}
 use Rattle.vidi_commands.proofs.replay_run_lemmas.Stretched.{are-marked, ends-contents, ends-encoded, ends-free, ends-order, ends-played}
 use Rattle.vidi_laws.specs.Headline.{AreNamed, IsInOrderOf, ReplayIsFaithful}
 use Rattle.vidi_laws.proofs.Gaps.{order-bare, recorded-bare, trace-epochs, IsTraceOf}
 use Rattle.vidi_laws.proofs.KeptOrder.{findings-keep}
-
--- as many contents as starts
-length-recorded : (channels : List Channel) (packets : List Packet) (c : ℕ) → length (recorded channels packets c) ≡ count Start c packets
-length-recorded channels packets c =
-    length-map (filter (does Start c) packets) (λ (p : Packet). content_of channels p c) ∙ length-filter (does Start c) packets
 
 -- where nothing is recorded all is in order
 none-in_order : (channels : List Channel) (packets : List Packet) → AreInOrder channels packets []
@@ -46,20 +35,6 @@ none-in_order channels packets = record {
   where
     none-at : (p : ℕ) (packet : Packet) → slice_get [] p ≡ Some packet → ⊥
     none-at p packet at = cc
-
--- behind a stretch with another one behind it its epoch is done
-turned-done : (d : Design) (m : Map) (all : ℕ) (es : List (List Packet)) (ss : List (List Row))
-    → AreStretches (IsEpochReplay d m all) (TurnsEpoch m.channels) (λ left rows. drop 1 left) es ss → (k : ℕ) (rows : List Row)
-    → slice_get ss k ≡ Some rows → suc k < length ss → (packets : List Packet) → slice_get es k ≡ Some packets → IsDone m.channels packets rows
-turned-done d m all es [] are k rows at l packets there = absurd are
-turned-done d m all es (s ∷ []) are k rows at l packets there = absurd (omega (arith, l))
-turned-done d m all [] (s ∷ t ∷ ss) are k rows at l packets there = absurd are.0.is
-turned-done d m all (e ∷ []) (s ∷ t ∷ ss) are k rows at l packets there = absurd are.0.turns
-turned-done d m all (e ∷ f ∷ es) (s ∷ t ∷ ss) are zero rows at l packets there =
-    subst (λ (ps : List Packet). IsDone m.channels ps rows) (same_Some e packets there)
-    (subst (IsDone m.channels e) (same_Some s rows at) are.0.turns)
-turned-done d m all (e ∷ f ∷ es) (s ∷ t ∷ ss) are (suc k) rows at l packets there =
-    turned-done d m all (f ∷ es) (t ∷ ss) are.2 k rows at (omega (arith, l)) packets there
 
 module _ (d : Design) (m : Map) (packets : List Packet) (n : ℕ) (past : List (List Row)) (here : List Row) (o : ReplayOutcome)
     (ends : EndsAs d m packets n past here o) (out : List Packet) (of : IsTraceOf m.channels (and_stretch past here) out) where
@@ -85,30 +60,8 @@ module _ (d : Design) (m : Map) (packets : List Packet) (n : ℕ) (past : List (
       ((ends-order d m packets n past here o ends).each e rows at))))
       (cases_lt (resets out) e)
 
-  epoch-whole : (e c : ℕ) (x : Channel) → e < resets out → slice_get m.channels c ≡ Some x → x.dir ≡ Inward
-      → recorded m.channels (epoch e out) c ≡ recorded m.channels (epoch e packets) c
-  epoch-whole e c x later at inward =
-      let many = of.many in
-      let few = few-resets in
-      let rows = get_or stretches e [] in
-      let there : slice_get stretches e ≡ Some rows = slice_get-get_or stretches e [] (omega (arith, many, later)) in
-      let played = (ends-played d m packets n past here o ends).played in
-      let epoch-at : slice_get (epochs packets) e ≡ Some (epoch e packets) =
-      epochs-get 0 (suc (resets packets)) e packets (omega (arith, later, few))
-      ∙ ap (λ (i : ℕ). Some (epoch i packets)) (let z : 0 + e ≡ e = omega arith in z) in
-      let done = turned-done d m (length (epochs packets)) (epochs packets) stretches played e rows there (omega (arith, many, later))
-      (epoch e packets) epoch-at in
-      let all = (done c x at).1 inward in
-      let own = recorded m.channels (packets_of m.channels rows) c in
-      let long : length own ≡ shown Start c rows =
-      length-recorded m.channels (packets_of m.channels rows) c ∙ same-counts Start c m.channels rows in
-      let most = length-recorded m.channels (epoch e packets) c in
-      let front = ((ends-order d m packets n past here o ends).each e rows there).contents c x at inward in
-      sym (recorded-bare m.channels c (epoch e out)) ∙ ap (λ (ps : List Packet). recorded m.channels ps c) (of.each e rows there) ∙ front
-      ∙ take_all (length own) (recorded m.channels (epoch e packets) c) (omega (arith, all, long, most))
-
-  in-order : IsInOrderOf m.channels packets out
-  in-order = record { few = few-resets; order = epoch-order; whole = epoch-whole }
+  in-order : ArePrefixes m.channels packets out → IsInOrderOf m.channels packets out
+  in-order contents = record { few = few-resets; order = epoch-order; contents = contents }
 
 lists-named : (d : Design) (m : Map) (packets : List Packet) (n : ℕ) (past : List (List Row)) (here : List Row) (o : ReplayOutcome)
     → EndsAs d m packets n past here o → AreNamed m.channels packets past here o
@@ -129,7 +82,9 @@ replay-faithful design map trace files v t is n small rows o x =
     (trace-epochs m.channels ss (are-marked d m (epochs t.packets) ss played) (omega (arith, some))) in
     let well = subst (λ (cs : List Channel). IsWellFormed (record { channels = cs; packets = t.packets })) is.same
     is.encodes.0.well_formed in
-    let order = in-order d m t.packets n x.past x.here o x.ends (trace_of m.channels rows).packets of in
+    let contents = subst (λ (rs : List Row). ArePrefixes m.channels t.packets (trace_of m.channels rs).packets) x.rows_are
+    (prefixes d m t.packets x.past x.here played (ends-order d m t.packets n x.past x.here o x.ends) well.packets) in
+    let order = in-order d m t.packets n x.past x.here o x.ends (trace_of m.channels rows).packets of contents in
     record {
       order = order;
       unbroken = findings-keep m.channels t.packets (trace_of m.channels rows).packets order.few order.order;

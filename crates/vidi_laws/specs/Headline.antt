@@ -13,7 +13,7 @@ use Rattle.vidi_commands.specs.trace_model.declared.packet.Packet.{Packet}
 use Rattle.vidi_commands.specs.trace_model.declared.row.Row.{Row}
 use Rattle.vidi_commands.specs.trace_model.declared.trace.Trace.{Trace}
 use Rattle.vidi_commands.specs.trace_model.Epoch.{epoch, resets}
-use Rattle.vidi_commands.specs.trace_model.Recording.{recorded, trace_of}
+use Rattle.vidi_commands.specs.trace_model.Recording.{trace_of}
 use Rattle.vidi_commands.specs.trace_code.Encoding.{HasEncoding, encode, header_bytes}
 use Rattle.vidi_commands.specs.trace_code.Salvage.{front, LieWhole}
 use Rattle.vidi_commands.specs.trace_compare.declared.report.Finding.{Finding}
@@ -24,7 +24,7 @@ use Rattle.vidi_commands.specs.run_model.Laws.{AreInOrder, ContentsStay}
 use Rattle.vidi_commands.specs.run_model.Stretches.{and_stretch}
 use Rattle.vidi_commands.specs.replay_run.declared.outcome.ReplayOutcome.{ReplayOutcome}
 use Rattle.vidi_commands.specs.replay_run.declared.outcome.ReplayOutcome.TheVariants.{Ended, Short, Unstable}
-use Rattle.vidi_commands.specs.replay_run.Replaying.{held_behind, waits_behind, GoesInNoCircle}
+use Rattle.vidi_commands.specs.replay_run.Replaying.{held_behind, waits_behind, ArePrefixes, GoesInNoCircle}
 use Rattle.vidi_commands.specs.chan_map.declared.pins.Map.{Map}
 use Rattle.vidi_commands.specs.shim_trees.Wrapped.{wrapped}
 use Rattle.vidi_commands.specs.trace_model.declared.packet.TheConstants.{MOST_CYCLES}
@@ -141,13 +141,12 @@ AreNamed channels packets past here (Short helds events) =
 AreNamed channels packets past here (Unstable channel cycle) = Unit {0}
 
 -- *Order in the output*: events are paired by epoch, channel, kind and index. In each epoch each input start and output completion is a
--- recorded one, and the completions before it cover its recorded clock; the contents of each inward channel are a prefix of those recorded,
--- and all of them where a reset follows. There are at most the recorded resets.
+-- recorded one, and the completions before it cover its recorded clock. There are at most the recorded resets. The contents of each inward
+-- channel are a prefix of those recorded, over all epochs.
 pub record IsInOrderOf (channels : List Channel) (packets out : List Packet) : Type 0 where
   pub few : resets out ≤ resets packets
   pub order : (e : ℕ) → AreInOrder channels (epoch e packets) (epoch e out)
-  pub whole : (e c : ℕ) (x : Channel) → e < resets out → slice_get channels c ≡ Some x → x.dir ≡ Inward
-      → recorded channels (epoch e out) c ≡ recorded channels (epoch e packets) c
+  pub contents : ArePrefixes channels packets out
 
 -- a finding on a channel of this direction says of an event that the replayers control, or of a reset, that it is another one, or too much,
 -- or too early
