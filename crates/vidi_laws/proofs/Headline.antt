@@ -1,6 +1,6 @@
 -- The laws of a script's run, said of the four files.
-use Rattle.std.proofs.Common.{◌≡◌, ◌≤◌, ℕ, true, List, [], ◌∷◌, ◌++◌, Option, None, Some, length, take, slice_get, refl, sym, subst, arith}
-use Rattle.std.specs.Prelude.{false, IsSomeAnd}
+use Rattle.std.proofs.Common.{◌≡◌, ◌≤◌, ℕ, List, ◌++◌, Option, Some, length, refl, sym, subst, arith}
+use Rattle.std.specs.Prelude.{IsSomeAnd}
 use Rattle.std.specs.FinMap.{get}
 use Rattle.vidi_commands.specs.vidi_io.Shelf.{Files}
 use Rattle.vidi_commands.specs.trace_model.declared.row.Row.{Row}
