@@ -331,8 +331,8 @@ restart-requires-clause-may g c =
     let t = c.args.cycle in
     let emitted = c.keep.new.cells.room in
     let put = ap (λ (b : Buffer ℕ). b.items) c.keep.ensures.store in
-    let comes = c.comes-comes.result in
-    let said = c.comes-comes.ensures in
+    let comes = c.reset_comes-comes.result in
+    let said = c.reset_comes-comes.ensures in
     let can = may-turn m offer stalls times cycles given begun told stands_for current cells past here row lasts k t long emitted c.keep.ensures.room comes c.keep.new.cells.resets said in
     can
 
@@ -492,8 +492,8 @@ give-requires-clause-waits g c =
     let t = c.args.cycle in
     let emitted = c.keep.new.cells.room in
     let put = ap (λ (b : Buffer ℕ). b.items) c.keep.ensures.store in
-    let comes = c.comes-comes.result in
-    let said = c.comes-comes.ensures in
+    let comes = c.reset_comes-comes.result in
+    let said = c.reset_comes-comes.ensures in
     let next = comes-is m offer stalls times cycles given begun told stands_for current cells past here row lasts k t long emitted c.keep.ensures.room comes c.keep.new.cells.resets c.keep.ensures.resets said in
     let can = may-turn m offer stalls times cycles given begun told stands_for current cells past here row lasts k t long emitted c.keep.ensures.room comes c.keep.new.cells.resets said in
     let mid = c.restart.new.cells.room in
@@ -535,13 +535,12 @@ returns-in_err-give-clause-broke g c =
     let t = c.args.cycle in
     let emitted = c.keep.new.cells.room in
     let put = ap (λ (b : Buffer ℕ). b.items) c.keep.ensures.store in
-    let comes = c.comes-comes.result in
-    let said = c.comes-comes.ensures in
+    let comes = c.reset_comes-comes.result in
+    let said = c.reset_comes-comes.ensures in
     let next = comes-is m offer stalls times cycles given begun told stands_for current cells past here row lasts k t long emitted c.keep.ensures.room comes c.keep.new.cells.resets c.keep.ensures.resets said in
     let can = may-turn m offer stalls times cycles given begun told stands_for current cells past here row lasts k t long emitted c.keep.ensures.room comes c.keep.new.cells.resets said in
     let mid = c.restart.new.cells.room in
-    let put_reset = ap (λ (b : Buffer ℕ). b.items) c.restart.ensures.store in
-    (
+    let put_reset = ap (λ (b : Buffer ℕ). b.items) c.restart.ensures.store in (
       stands.0,
       record { plan = c.commit.ensures.plan ∙ stands.2.plan; channels_are = stands.2.channels_are; channels_stay = c.commit.ensures.channels ∙ stands.2.channels_stay },
       record {
@@ -556,7 +555,7 @@ returns-in_err-give-clause-broke g c =
           (g.E.Env.stands_for c.commit.new.self)) (more past here row) (record {
             played = c.commit.ensures.rows rows k.at.far.played;
             cut = cut-now m offer stalls times cycles given begun told stands_for current cells past here row lasts k t long emitted c.keep.ensures.room
-    mid c.restart.new.cells.store.items c.keep.new.cells.store.items comes c.keep.new.cells.end next can put c.keep.ensures.end c.restart.ensures.room put_reset
+                mid c.restart.new.cells.store.items c.keep.new.cells.store.items comes c.keep.new.cells.end next can put c.keep.ensures.end c.restart.ensures.room put_reset
                 (g.K.Sink.told c.give.new.sink) c.allowance.result c.allowance.ensures c.in_err-give.ensures.err;
           })),
     )))
@@ -639,8 +638,8 @@ returns-clause-stands g c first past here long stands ruled =
     let t = c.args.cycle in
     let emitted = c.keep.new.cells.room in
     let put = ap (λ (b : Buffer ℕ). b.items) c.keep.ensures.store in
-    let comes = c.comes-comes.result in
-    let said = c.comes-comes.ensures in
+    let comes = c.reset_comes-comes.result in
+    let said = c.reset_comes-comes.ensures in
     let next = comes-is m offer stalls times cycles given begun told stands_for current cells past here row lasts k t long emitted c.keep.ensures.room comes c.keep.new.cells.resets c.keep.ensures.resets said in
     let can = may-turn m offer stalls times cycles given begun told stands_for current cells past here row lasts k t long emitted c.keep.ensures.room comes c.keep.new.cells.resets said in
     let mid = c.restart.new.cells.room in
@@ -662,13 +661,13 @@ returns-clause-stands g c first past here long stands ruled =
       going = λ start begins. subst (λ b. Going m.channels (plan_of stalls times) start (rows ++ row ∷ []) b c.give.new.room
           c.give.new.store.items (g.K.Sink.told c.give.new.sink) c.restart.new.cells.packets) (sym c.restart.ensures.fresh)
           (going-more m offer stalls times cycles given begun told stands_for current cells past here row lasts k t long emitted c.keep.ensures.room
-    mid c.restart.new.cells.store.items c.keep.new.cells.store.items comes c.keep.new.cells.end next can put c.keep.ensures.end c.restart.ensures.room put_reset c.give.new.room c.give.new.store.items
+          mid c.restart.new.cells.store.items c.keep.new.cells.store.items comes c.keep.new.cells.end next can put c.keep.ensures.end c.restart.ensures.room put_reset c.give.new.room c.give.new.store.items
           (g.K.Sink.told c.give.new.sink) c.allowance.result c.keep.new.cells.packets c.restart.new.cells.packets c.allowance.ensures c.give.ensures.room
           (ap (λ (b : Buffer ℕ). b.items) c.give.ensures.rest) c.in_ok-give.ensures.ok c.keep.ensures.count c.restart.ensures.count start begins);
       ends = ends-now m offer stalls times cycles given begun told stands_for current cells past here row lasts k t long emitted c.keep.ensures.room
-    mid c.restart.new.cells.store.items c.keep.new.cells.store.items comes c.keep.new.cells.end next can put c.keep.ensures.end c.restart.ensures.room put_reset c.restart.new.cells.end c.restart.ensures.end ∙ ap (end_so_far (rows ++ row ∷ [])) (sym c.restart.ensures.fresh);
+          mid c.restart.new.cells.store.items c.keep.new.cells.store.items comes c.keep.new.cells.end next can put c.keep.ensures.end c.restart.ensures.room put_reset c.restart.new.cells.end c.restart.ensures.end ∙ ap (end_so_far (rows ++ row ∷ [])) (sym c.restart.ensures.fresh);
       came = came-now m offer stalls times cycles given begun told stands_for current cells past here row lasts k t long emitted c.keep.ensures.room
-    mid c.restart.new.cells.store.items c.keep.new.cells.store.items comes c.keep.new.cells.end next can put c.keep.ensures.end c.restart.ensures.room put_reset c.restart.new.cells.resets c.keep.new.cells.resets c.keep.ensures.resets c.restart.ensures.resets
+          mid c.restart.new.cells.store.items c.keep.new.cells.store.items comes c.keep.new.cells.end next can put c.keep.ensures.end c.restart.ensures.room put_reset c.restart.new.cells.resets c.keep.new.cells.resets c.keep.ensures.resets c.restart.ensures.resets
           ∙ ap (λ b. restarts (rows ++ row ∷ []) + cond b 1 0) (sym c.restart.ensures.fresh);
       sizes = record {
         store = ap (λ (b : Buffer ℕ). b.capacity) c.give.ensures.rest ∙ ap (λ (b : Buffer ℕ). b.capacity) c.restart.ensures.store
@@ -697,6 +696,6 @@ returns-clause-stands g c first past here long stands ruled =
                 (g.E.Env.current then) _) (more past here row) at;
             next = subst (IsNextFresh m.channels (plan_of stalls times) times cycles past (here ++ row ∷ [])) (sym c.restart.ensures.fresh)
                 (next-now m offer stalls times cycles given begun told stands_for current cells past here row lasts k t long emitted c.keep.ensures.room
-    mid c.restart.new.cells.store.items c.keep.new.cells.store.items comes c.keep.new.cells.end next can put c.keep.ensures.end c.restart.ensures.room put_reset);
+                mid c.restart.new.cells.store.items c.keep.new.cells.store.items comes c.keep.new.cells.end next can put c.keep.ensures.end c.restart.ensures.room put_reset);
           }),
     )
