@@ -1,6 +1,5 @@
 -- The command `replay`: no failed write among its answers, and the same where no read failed.
 use Rattle.std.proofs.Common.{◌≡◌, ℕ, Bool, List, Option, inl, inr}
-use Rattle.replay_run.specs.trace_model.declared.channel.Channel.{Channel}
 use Rattle.replay_run.specs.trace_model.declared.trace.Trace.{Trace}
 use Rattle.replay_run.specs.trace_model.Recording.{trace_of}
 use Rattle.replay_run.specs.chan_map.declared.pins.Map.{Map}
@@ -13,20 +12,17 @@ use Rattle.vidi_bench.specs.vidi_answer.declared.status.Status.{Status}
 use Rattle.vidi_bench.specs.vidi_answer.declared.status.Status.TheVariants.{WriteFault, Short, Unstable}
 use Rattle.vidi_bench.specs.Design.{text_limit}
 use Rattle.vidi_bench.specs.Reading.{Reading}
-use Rattle.replay_command.specs.Replays.{IsUnfit, RefusedTrace, RefusedReplay, IsUnreplayed, IsReplaySaid, Replays}
+use Rattle.replay_command.specs.Replays.{RefusedTrace, RefusedReplay, IsUnreplayed, IsReplaySaid, Replays}
 use Rattle.replay_command.specs.Said.{replayed_line}
-use Rattle.vidi_bench.specs.Traces.{trace_limit}
+use Rattle.vidi_bench.specs.Traces.{trace_limit, HasOtherChannels}
 use Rattle.vidi_bench.proofs.Quiet.{Mute, mute-reading, mute-refusal, quiet-reading}
 use Rattle.vidi_bench.proofs.QuietTexts.{mute-wiring}
-use Rattle.vidi_bench.proofs.QuietDecoding.{mute-decoding, mute-reset, mute-verdict}
+use Rattle.vidi_bench.proofs.QuietDecoding.{mute-decoding, mute-verdict}
 
 -- ---- no failed write
-mute-unfit : (channels : List Channel) (t : Trace) → Mute (IsUnfit channels t)
-mute-unfit channels t x (inl (at, same, other, s)) = mute-refusal words.Trace (OtherChannels at) x s
-mute-unfit channels t x (inr (same, reset)) = mute-reset words.Trace t.packets x reset
-
 mute-trace : (trace : List ℕ) (m : Map) → Mute (RefusedTrace trace m)
-mute-trace trace m = mute-decoding words.Trace trace (IsUnfit m.channels) (mute-unfit m.channels)
+mute-trace trace m = mute-decoding words.Trace trace (λ t. HasOtherChannels words.Trace m.channels t.channels)
+    (λ t x (at, same, other, s). mute-refusal words.Trace (OtherChannels at) x s)
 
 pub mute-refused_replay : (design map trace : List ℕ) → Mute (RefusedReplay design map trace)
 mute-refused_replay design map trace = mute-wiring design map (RefusedTrace trace) (mute-trace trace)

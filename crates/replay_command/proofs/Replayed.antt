@@ -4,7 +4,6 @@ use Rattle.std.specs.Prelude.{IfOk, IfErr}
 use Rattle.replay_run.specs.trace_model.declared.trace.Trace.{Trace}
 use Rattle.replay_run.specs.trace_model.Recording.{trace_of}
 use Rattle.replay_run.specs.trace_code.Encoding.{Encodes, encode}
-use Rattle.replay_run.specs.trace_code.NoReset.{HasNoReset}
 use Rattle.vidi_bench.specs.vidi_io.Shelf.{Files}
 use Rattle.vidi_bench.specs.vidi_io.Writing.{IsKept}
 use Rattle.vidi_bench.proofs.vidi_io_lemmas.Cut.{cut-knowing}
@@ -26,9 +25,8 @@ use Rattle.vidi_bench.specs.Traces.{trace_limit}
 pub replayable-said : (design map trace : List ℕ) (files : Option Files) (d m b : List ℕ) (r : Result Replayable Ended)
     → IsRead text_limit design files d → IsRead text_limit map files m → IsRead trace_limit trace files b
     → IfOk r (λ p. IsDevice d m p.device) → IfOk r (λ p. Encodes p.trace b) → IfOk r (λ p. p.trace.channels ≡ p.device.map.channels)
-    → IfOk r (λ p. HasNoReset p.trace.packets)
     → IfOk r (λ p. IsReplayable design map trace files p.device p.trace)
-replayable-said design map trace files d m b (Ok p) first second third device encodes same none = record {
+replayable-said design map trace files d m b (Ok p) first second third device encodes same = record {
   design_text = d;
   map_text = m;
   trace_bytes = b;
@@ -38,9 +36,8 @@ replayable-said design map trace files d m b (Ok p) first second third device en
   device = device;
   encodes = encodes;
   same = same;
-  no_reset = none;
 }
-replayable-said design map trace files d m b (Err e) first second third device encodes same none = tt
+replayable-said design map trace files d m b (Err e) first second third device encodes same = tt
 
 -- the bytes of the trace are those that were read
 pub bytes-encode : (b : List ℕ) (r : Result Replayable Ended) → IfOk r (λ p. p.bytes ≡ b) → IfOk r (λ p. Encodes p.trace b)

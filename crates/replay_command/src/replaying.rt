@@ -5,11 +5,11 @@ ghost use Rattle.replay_run.specs.trace_model.declared.row.Row.{Row as OneRow};
 ghost use Rattle.replay_run.specs.trace_model.declared.trace.Trace.{Trace as OneTrace};
 ghost use Rattle.replay_run.specs.trace_model.Recording.{trace_of};
 ghost use Rattle.replay_run.specs.trace_code.Encoding.{Encodes, HasEncoding};
-ghost use Rattle.replay_run.specs.trace_code.NoReset.{HasNoReset};
 ghost use Rattle.net_design.specs.Lawful.{IsLawful};
 ghost use Rattle.net_sim.specs.net_order.Order.{IsOrder};
 ghost use Rattle.replay_run.specs.run_model.MapOf.{IsMapOf};
 ghost use Rattle.replay_run.specs.Replaying.{EndsAs};
+ghost use Rattle.replay_run.specs.run_stage.Stretching.{all_rows};
 ghost use Rattle.replay_run.specs.trace_model.declared.packet.TheConstants.{MOST_CYCLES};
 ghost use Rattle.vidi_bench.specs.vidi_io.Cause.{Rose};
 ghost use Rattle.vidi_bench.specs.vidi_io.Shelf.{HasStarted, Later};
@@ -35,7 +35,6 @@ use replay_run::vidi_bits::{Bytes, Memory};
 use replay_run::{ReplayOutcome, Replayed};
 use std::alloc::Global;
 use vidi_bench::report_text::{put, put_number, short_lines};
-use vidi_bench::vidi_answer::without_reset;
 use vidi_bench::vidi_io::{Failed, Shelf, write_whole};
 use vidi_bench::{
     Answer, Device, Ended, Reason, Status, TEXT_LIMIT, Word, device_of, diverged, read_file,
@@ -103,7 +102,6 @@ fn plan_texts(alloc: Global, design: &[u8], map: &[u8], bytes: Bytes) -> Result<
     ensures bytes { IfOk result (λ p. p.bytes ≡ bytes) }
     ensures encodes { IfOk result (λ p. Encodes p.trace bytes) }
     ensures same { IfOk result (λ p. p.trace.channels ≡ p.device.map.channels) }
-    ensures no_reset { IfOk result (λ p. HasNoReset p.trace.packets) }
     ensures runnable { IfOk result (λ p. IsRunnable p.device) }
     ensures refused { IfErr result (EndsWith (RefusedReplay design.now map.now bytes)) }
 {
@@ -116,16 +114,15 @@ fn plan_texts(alloc: Global, design: &[u8], map: &[u8], bytes: Bytes) -> Result<
     })
 }
 
-/// The trace of these bytes, which has the channels of the map and no reset.
+/// The trace of these bytes, which has the channels of the map.
 pub fn trace_over(alloc: Global, bytes: &[u8], map: &Map) -> Result<Trace, Ended>
     ensures encodes { IfOk result (λ t. Encodes t bytes.now) }
     ensures same { IfOk result (λ t. t.channels ≡ map.now.channels) }
-    ensures no_reset { IfOk result (λ t. HasNoReset t.packets) }
     ensures refused { IfErr result (EndsWith (RefusedTrace bytes.now map.now)) }
 {
     let trace = trace_of(alloc, Word::Trace, bytes)?;
     match same_channels(&map.channels, &trace.channels) {
-        None => without_reset(alloc, Word::Trace, trace),
+        None => Ok(trace),
         Some(at) => Err(Ended::Refused(refused(alloc, Word::Trace, Reason::OtherChannels { at })?)),
     }
 }
@@ -141,7 +138,6 @@ fn replayed<S: Shelf>(
     requires runnable { IsRunnable plan.device }
     requires encodes { Encodes plan.trace plan.bytes }
     requires same { plan.trace.channels ≡ plan.device.map.channels }
-    requires no_reset { HasNoReset plan.trace.packets }
     requires few { cycles ≤ MOST_CYCLES }
     ensures done { IfOk result (λ a. ReplaysTrace plan.device plan.trace cycles out.now (S.files shelf.old)
         (HasStarted (S.starts shelf.old) (S.starts shelf.new)) a.status (text_of a.text) (S.files shelf.new)) }
@@ -170,7 +166,6 @@ fn replayed<S: Shelf>(
 pub fn played(alloc: Global, device: Device, bytes: &[u8], cycles: u32) -> Result<Replayed, Memory>
     requires runnable { IsRunnable device }
     requires trace { (t : OneTrace) × Encodes t bytes.now × (t.channels ≡ device.map.channels) }
-    requires no_reset { (t : OneTrace) × Encodes t bytes.now × HasNoReset t.packets }
     requires few { cycles ≤ MOST_CYCLES }
     ensures { IfOk result (λ r. (t : OneTrace) → Encodes t bytes.now → (rows : List OneRow)
         × IsTheReplay device t cycles rows r.outcome × Encodes (trace_of device.map.channels rows) r.out) }
@@ -192,10 +187,9 @@ fn replay_sim(
     requires order { IsOrder design order.drivers }
     requires mapped { IsMapOf design map.now }
     requires trace { (t : OneTrace) × Encodes t bytes.now × (t.channels ≡ map.now.channels) }
-    requires no_reset { (t : OneTrace) × Encodes t bytes.now × HasNoReset t.packets }
     requires few { cycles ≤ MOST_CYCLES }
-    ensures { IfOk result (λ r. (t : OneTrace) → Encodes t bytes.now → (rows : List OneRow)
-        × EndsAs design map.now t.packets cycles rows r.outcome × Encodes (trace_of map.now.channels rows) r.out) }
+    ensures { IfOk result (λ r. (t : OneTrace) → Encodes t bytes.now → (past : List (List OneRow)) × (here : List OneRow)
+        × EndsAs design map.now t.packets cycles past here r.outcome × Encodes (trace_of map.now.channels (all_rows past here)) r.out) }
 {
     let sim = Sim::new(alloc, design, order)?;
     replay_block(alloc, sim, map, bytes, cycles)
@@ -213,10 +207,10 @@ fn replay_block<B: Block + Drop>(
     requires lawful { IsLawful (B.design block) }
     requires mapped { IsMapOf (B.design block) map.now }
     requires trace { (t : OneTrace) × Encodes t bytes.now × (t.channels ≡ map.now.channels) }
-    requires no_reset { (t : OneTrace) × Encodes t bytes.now × HasNoReset t.packets }
     requires few { cycles ≤ MOST_CYCLES }
-    ensures { IfOk result (λ r. (t : OneTrace) → Encodes t bytes.now → (rows : List OneRow)
-        × EndsAs (B.design block) map.now t.packets cycles rows r.outcome × Encodes (trace_of map.now.channels rows) r.out) }
+    ensures { IfOk result (λ r. (t : OneTrace) → Encodes t bytes.now → (past : List (List OneRow)) × (here : List OneRow)
+        × EndsAs (B.design block) map.now t.packets cycles past here r.outcome
+        × Encodes (trace_of map.now.channels (all_rows past here)) r.out) }
 {
     let mut shell = ReplayMachines::new(alloc, block, map)?;
     replay_run::replay(alloc, &mut shell, map, bytes, cycles)

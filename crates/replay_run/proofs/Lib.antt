@@ -1,3 +1,4 @@
+pub mod Epochs
 pub mod Forward
 pub mod Placing
 pub mod Fills

@@ -5,6 +5,7 @@ use Rattle.trace_code.specs.trace_model.declared.channel.Channel.{Channel}
 use Rattle.trace_code.specs.trace_model.declared.packet.Packet.{Packet}
 use Rattle.trace_code.specs.trace_model.declared.trace.Trace.{Trace}
 use Rattle.trace_code.specs.trace_model.Counting.{IsNth}
+use Rattle.trace_code.specs.trace_model.Epoch.{epoch}
 use Rattle.trace_code.specs.trace_model.Packet.{does}
 use Rattle.trace_code.specs.trace_model.Row.{content_at}
 use Rattle.trace_code.specs.declared.cursor.Cursor.{Cursor}
@@ -12,6 +13,7 @@ use Rattle.trace_code.specs.Stands.{Stands}
 use Rattle.run_stage.specs.chan_replayer.declared.feed.Feed.{Feed}
 use Rattle.run_stage.specs.chan_replayer.Feed.{kind_of, need_of, IsFeedAt}
 use Rattle.replay_run.specs.Behind.{epoch_clock}
+use Rattle.replay_run.specs.Epochs.{before_epoch}
 
 -- two feeds say the same of channel c
 pub record IsSameAt (channels : List Channel) (c : ℕ) (old new : Feed) : Type 0 where
@@ -32,7 +34,8 @@ abbrev pub IsClockAt : Trace → Cursor → ℕ → List ℕ → ℕ → Type 0
 IsClockAt t k n needs b = (j p : ℕ) (packet : Packet) → Stands k t j → IsNth (does k.kind k.channel) t.packets j p packet
     → (d : ℕ) → d < n → slice_index needs (n * b + d) ≡ epoch_clock t.packets p d
 
--- the packet of the event at which the cursor stands has the next event of channel b that the replayers control
-abbrev pub IsBeside : Trace → (ℕ → ℕ) → Cursor → ℕ → Type 0
-IsBeside t have k b = (x : Channel) → slice_get t.channels b ≡ Some x → (j p : ℕ) (packet : Packet) → Stands k t j
-    → IsNth (does k.kind k.channel) t.packets j p packet → IsNth (does (kind_of x.dir) b) t.packets (have b) p packet
+-- the packet of the event at which the cursor stands, in epoch e, has the next event of channel b that the replayers control
+abbrev pub IsBeside : Trace → ℕ → (ℕ → ℕ) → Cursor → ℕ → Type 0
+IsBeside t e have k b = (x : Channel) → slice_get t.channels b ≡ Some x → (j p : ℕ) (packet : Packet) → Stands k t j
+    → IsNth (does k.kind k.channel) t.packets j (length (before_epoch e t.packets) + p) packet → p < length (epoch e t.packets)
+    → IsNth (does (kind_of x.dir) b) (epoch e t.packets) (have b) p packet

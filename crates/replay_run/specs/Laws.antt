@@ -8,8 +8,9 @@ use Rattle.run_stage.specs.run_model.Laws.{ContentsFit, IsReady}
 use Rattle.replay_run.specs.declared.outcome.ReplayOutcome.{ReplayOutcome}
 use Rattle.replay_run.specs.Replaying.{EndsAs}
 
--- Of recorded packets a design with a map has exactly one replay of at most n cycles, and it ends in one way.
+-- Of recorded packets a design with a map has exactly one replay of at most n cycles, in exactly one list of stretches, and it ends in one way.
 abbrev pub OneOutcome : Type 0
 OneOutcome = (d : Design) (m : Map) → IsReady d m → (packets : List Packet) → ContentsFit m.channels packets → (n : ℕ)
-    → ∥ ((rows : List Row) × (outcome : ReplayOutcome) × EndsAs d m packets n rows outcome) ∥₁
-    × ((a b : List Row) (i j : ReplayOutcome) → EndsAs d m packets n a i → EndsAs d m packets n b j → (a ≡ b) × (i ≡ j))
+    → ∥ ((past : List (List Row)) × (here : List Row) × (outcome : ReplayOutcome) × EndsAs d m packets n past here outcome) ∥₁
+    × ((past before : List (List Row)) (here there : List Row) (i j : ReplayOutcome) → EndsAs d m packets n past here i
+    → EndsAs d m packets n before there j → (past ≡ before) × (here ≡ there) × (i ≡ j))

@@ -22,10 +22,10 @@ pub record AreSpare (n many : ℕ) (spare : List (Vec Await)) : Type 0 where
   pub enough : many ≤ length spare
   pub each : (i : ℕ) (list : Vec Await) → slice_get spare i ≡ Some list → (list.items ≡ []) × (vec_len list + n ≤ vec_capacity list)
 
--- room for the lists of n channels, and for what an event of each awaits; they are empty
+-- room for the lists of n channels with the reset, and for what each of these events awaits; they are empty
 pub record HasRoom (n : ℕ) (lists : Lists) : Type 0 where
   pub no_held : lists.held.items ≡ []
-  pub held : vec_len lists.held + n ≤ vec_capacity lists.held
+  pub held : vec_len lists.held + (n + 1) ≤ vec_capacity lists.held
   pub no_waits : lists.waits.items ≡ []
-  pub waits : vec_len lists.waits + n ≤ vec_capacity lists.waits
-  pub awaits : AreSpare n n lists.awaits.items
+  pub waits : vec_len lists.waits + (n + 1) ≤ vec_capacity lists.waits
+  pub awaits : AreSpare n (n + 1) lists.awaits.items

@@ -1,6 +1,6 @@
 //! The feed that cursors give.
 
-ghost use Rattle.std.specs.Prelude.{◌≡◌, ◌≢◌, ◌+◌, ◌*◌, ◌^◌, ◌<◌, ◌≤◌, ◌↔◌, ◌⊎◌, ℕ, true, false, IsTrue, IfOk, IfSome, length, slice_get, slice_index, take};
+ghost use Rattle.std.specs.Prelude.{◌≡◌, ◌≢◌, ◌+◌, ◌*◌, ◌^◌, ◌<◌, ◌≤◌, ◌⊎◌, ℕ, true, false, IfOk, IfSome, length, slice_get, slice_index, take};
 ghost use Rattle.std.specs.Int.{bit_at};
 ghost use Rattle.trace_code.specs.vidi_bits.Number.{has};
 ghost use Rattle.trace_code.specs.trace_model.declared.packet.Packet.{Packet};
@@ -11,11 +11,12 @@ ghost use Rattle.trace_code.specs.trace_model.Packet.{content_of, count, does, w
 ghost use Rattle.trace_code.specs.trace_model.Row.{all_widths, replaced};
 ghost use Rattle.trace_code.specs.Stands.{Stands};
 ghost use Rattle.run_stage.specs.chan_replayer.Feed.{need_of, IsFeed, IsFeedAt, IsFeedOver};
-ghost use Rattle.replay_run.specs.Behind.{epoch_clock, none_yet, AreBehind, IsBehind};
+ghost use Rattle.trace_code.specs.trace_model.Epoch.{epoch as packets_in, resets};
+ghost use Rattle.replay_run.specs.Behind.{epoch_at, epoch_clock, none_yet, AreBehind, IsNext};
 ghost use Rattle.replay_run.specs.Feeding.{IsBeside, IsClockAt, IsChannelFed, IsFeedBut, IsSameAt};
 
 use crate::bits::{with_bit_as, without};
-use crate::cursors::{Cursors, cursor_of};
+use crate::cursors::{Cursors, cursor_of, has_next};
 use run_stage::chan_replayer::{Feed, Needs, kind_of};
 use std::alloc::Global;
 use trace_code::Cursor;
@@ -78,22 +79,15 @@ fn write_content(cursor: &Cursor, ports: usize, contents: &mut Numbers, at: usiz
     copy_content(cursor, ports, contents.as_mut_slice(), at);
 }
 
-/// Feeds the event at which a cursor stands as that of channel `c`: whether there is one, and its clock, which channel `beside` has where one is
-/// given. Gives whether there is.
-fn feed_event(
-    cursor: &Cursor,
-    beside: Option<usize>,
-    channels: usize,
-    c: usize,
-    feed: &mut Feed,
-) -> bool
+/// Feeds the event at which a cursor stands as that of channel `c`: that there is one, and its clock, which channel `beside` has where one is
+/// given.
+fn feed_event(cursor: &Cursor, beside: Option<usize>, channels: usize, c: usize, feed: &mut Feed)
     requires stands { (t : Trace) × (j : ℕ) × Stands cursor.now t j × (channels ≡ length t.channels) }
     requires beside { IfSome beside (λ b. b < channels) }
     requires channel { c < channels }
     requires few { channels ≤ 128 }
     requires needs { length feed.old.needs ≡ channels * channels }
-    ensures more { has feed.new.more c ≡ result }
-    ensures there { (t : Trace) (j : ℕ) → Stands cursor.now t j → IsTrue result ↔ (j < count cursor.now.kind cursor.now.channel t.packets) }
+    ensures more { has feed.new.more c ≡ true }
     ensures need { (t : Trace) (j p : ℕ) (packet : Packet) → IfSome beside (IsClockAt t cursor.now channels feed.old.needs)
         → Stands cursor.now t j → channels ≡ length t.channels
         → IsNth (does cursor.now.kind cursor.now.channel) t.packets j p packet
@@ -103,13 +97,8 @@ fn feed_event(
     ensures needs { length feed.new.needs ≡ channels * channels }
     ensures contents { feed.new.contents ≡ feed.old.contents }
 {
-    let more = !cursor.at_end();
-    feed.more = with_bit_as(feed.more, c, more);
-    if !more {
-        return false;
-    }
+    feed.more = with_bit_as(feed.more, c, true);
     feed_clock(cursor, beside, channels, c, &mut feed.needs);
-    true
 }
 
 /// Feeds the start at which a cursor stands as that of channel `c`, whose contents begin at place `at`. Where channel `beside` is given, it has the
@@ -125,19 +114,18 @@ fn feed_start(
     requires beside { IfSome beside (λ b. b < length channels.now) }
     requires channel { c < length channels.now }
     requires few { length channels.now ≤ 128 }
-    requires stands { (t : Trace) × (n : ℕ) × IsBehind t Kind.Start c n cursor.now × (t.channels ≡ channels.now) }
+    requires stands { (t : Trace) × (e : ℕ) × (n : ℕ) × IsNext t e Kind.Start c n cursor.now × (t.channels ≡ channels.now) }
     requires over { IsFeedOver channels.now feed.old }
     requires place { at ≡ length (all_widths (take c channels.now)) }
     ensures over { IsFeedOver channels.now feed.new }
-    ensures here { (t : Trace) (n : ℕ) → IfSome beside (IsClockAt t cursor.now (length channels.now) feed.old.needs)
-        → IsBehind t Kind.Start c n cursor.now → t.channels ≡ channels.now
-        → IsFeedAt channels.now t.packets Kind.Start c n feed.new }
+    ensures here { (t : Trace) (e n : ℕ) → IfSome beside (IsClockAt t cursor.now (length channels.now) feed.old.needs)
+        → IsNext t e Kind.Start c n cursor.now → t.channels ≡ channels.now
+        → IsFeedAt channels.now (packets_in e t.packets) Kind.Start c n feed.new }
     ensures others { (d : ℕ) → d ≢ c → IsSameAt channels.now d feed.old feed.new }
 {
-    if feed_event(cursor, beside, channels.len(), c, feed) {
-        let ports = channels[c].widths.len();
-        write_content(cursor, ports, &mut feed.contents, at);
-    }
+    feed_event(cursor, beside, channels.len(), c, feed);
+    let ports = channels[c].widths.len();
+    write_content(cursor, ports, &mut feed.contents, at);
 }
 
 /// Feeds the completion at which a cursor stands as that of channel `c`. Where channel `beside` is given, it has the completion's clock.
@@ -145,12 +133,12 @@ fn feed_end(cursor: &Cursor, beside: Option<usize>, channels: &[Channel], c: usi
     requires beside { IfSome beside (λ b. b < length channels.now) }
     requires channel { c < length channels.now }
     requires few { length channels.now ≤ 128 }
-    requires stands { (t : Trace) × (n : ℕ) × IsBehind t Kind.End c n cursor.now × (t.channels ≡ channels.now) }
+    requires stands { (t : Trace) × (e : ℕ) × (n : ℕ) × IsNext t e Kind.End c n cursor.now × (t.channels ≡ channels.now) }
     requires over { IsFeedOver channels.now feed.old }
     ensures over { IsFeedOver channels.now feed.new }
-    ensures here { (t : Trace) (n : ℕ) → IfSome beside (IsClockAt t cursor.now (length channels.now) feed.old.needs)
-        → IsBehind t Kind.End c n cursor.now → t.channels ≡ channels.now
-        → IsFeedAt channels.now t.packets Kind.End c n feed.new }
+    ensures here { (t : Trace) (e n : ℕ) → IfSome beside (IsClockAt t cursor.now (length channels.now) feed.old.needs)
+        → IsNext t e Kind.End c n cursor.now → t.channels ≡ channels.now
+        → IsFeedAt channels.now (packets_in e t.packets) Kind.End c n feed.new }
     ensures others { (d : ℕ) → d ≢ c → IsSameAt channels.now d feed.old feed.new }
 {
     feed_event(cursor, beside, channels.len(), c, feed);
@@ -170,7 +158,7 @@ fn beside(
     requires stands { (t : Trace) × (have : ℕ → ℕ) × AreBehind t have cursors.now × (t.channels ≡ channels.now) }
     ensures fed { IfSome result (λ b. has fed b ≡ true) }
     ensures packet { IfSome result (λ b. (t : Trace) (have : ℕ → ℕ) → AreBehind t have cursors.now → t.channels ≡ channels.now
-        → IsBeside t have cursor.now b) }
+        → IsBeside t cursors.now.epoch have cursor.now b) }
 {
     let mut left = fed;
     'left: while let Some((b, _others)) = lowest(left) {
@@ -199,11 +187,16 @@ fn feed_channel(
     requires place { at ≡ length (all_widths (take c channels.now)) }
     ensures over { IsFeedOver channels.now feed.new }
     ensures here { (t : Trace) (have : ℕ → ℕ) → AreBehind t have cursors.now → t.channels ≡ channels.now
-        → IsFeedBut left channels.now t.packets have feed.old → IsChannelFed channels.now t.packets have c feed.new }
+        → IsFeedBut left channels.now (epoch_at t cursors.now) have feed.old → IsChannelFed channels.now (epoch_at t cursors.now) have c feed.new }
     ensures others { (d : ℕ) → d ≢ c → IsSameAt channels.now d feed.old feed.new }
 {
     let dir = channels[c].dir;
-    let cursor = cursor_of(cursors, kind_of(dir), c);
+    let kind = kind_of(dir);
+    if !has_next(cursors, kind, c) {
+        feed.more = with_bit_as(feed.more, c, false);
+        return;
+    }
+    let cursor = cursor_of(cursors, kind, c);
     let fed = without(feed.more, left);
     let beside = beside(cursors, channels, &feed.needs, fed, cursor);
     match dir {
@@ -228,7 +221,8 @@ fn feed_named(
     requires place { at ≡ length (all_widths (take c channels.now)) }
     ensures over { IsFeedOver channels.now feed.new }
     ensures here { (t : Trace) (have : ℕ → ℕ) → AreBehind t have cursors.now → t.channels ≡ channels.now
-        → IsFeedBut left channels.now t.packets have feed.old → has left c ≡ true → IsChannelFed channels.now t.packets have c feed.new }
+        → IsFeedBut left channels.now (epoch_at t cursors.now) have feed.old → has left c ≡ true
+        → IsChannelFed channels.now (epoch_at t cursors.now) have c feed.new }
     ensures others { (d : ℕ) → (d ≢ c) ⊎ (has left d ≡ false) → IsSameAt channels.now d feed.old feed.new }
 {
     if names(left, c) {
@@ -243,7 +237,7 @@ fn fill(cursors: &Cursors, channels: &[Channel], which: u128, feed: &mut Feed)
     requires over { IsFeedOver channels.now feed.old }
     ensures over { IsFeedOver channels.now feed.new }
     ensures feed { (t : Trace) (have : ℕ → ℕ) → AreBehind t have cursors.now → t.channels ≡ channels.now
-        → IsFeedBut which channels.now t.packets have feed.old → IsFeed channels.now t.packets have feed.new }
+        → IsFeedBut which channels.now (epoch_at t cursors.now) have feed.old → IsFeed channels.now (epoch_at t cursors.now) have feed.new }
 {
     let mut left = which;
     let mut at = 0;
@@ -269,6 +263,18 @@ fn feed_over(alloc: Global, channels: &Channels) -> Result<Feed, Memory>
     })
 }
 
+/// Feeds the next event of each channel anew.
+pub(crate) fn refill(cursors: &Cursors, channels: &Channels, feed: &mut Feed)
+    requires table { IsTable channels.now }
+    requires stands { (t : Trace) × (have : ℕ → ℕ) × AreBehind t have cursors.now × (t.channels ≡ channels.now) }
+    requires over { IsFeedOver channels.now feed.old }
+    ensures over { IsFeedOver channels.now feed.new }
+    ensures feed { (t : Trace) (have : ℕ → ℕ) → AreBehind t have cursors.now → t.channels ≡ channels.now
+        → IsFeed channels.now (epoch_at t cursors.now) have feed.new }
+{
+    fill(cursors, channels.as_slice(), u128::MAX, feed);
+}
+
 /// The feed of cursors before anything has completed.
 pub(crate) fn first_feed(
     alloc: Global,
@@ -279,10 +285,10 @@ pub(crate) fn first_feed(
     requires stands { (t : Trace) × AreBehind t none_yet cursors.now × (t.channels ≡ channels.now) }
     ensures over { IfOk result (λ feed. IsFeedOver channels.now feed) }
     ensures feed { IfOk result (λ feed. (t : Trace) → AreBehind t none_yet cursors.now → t.channels ≡ channels.now
-        → IsFeed channels.now t.packets none_yet feed) }
+        → IsFeed channels.now (epoch_at t cursors.now) none_yet feed) }
 {
     let mut feed = feed_over(alloc, channels)?;
-    fill(cursors, channels.as_slice(), u128::MAX, &mut feed);
+    refill(cursors, channels, &mut feed);
     Ok(feed)
 }
 
@@ -293,9 +299,29 @@ pub(crate) fn follow(cursors: &mut Cursors, channels: &Channels, ends: u128, fee
     requires over { IsFeedOver channels.now feed.old }
     ensures over { IsFeedOver channels.now feed.new }
     ensures behind { (t : Trace) (have : ℕ → ℕ) → AreBehind t have cursors.old → AreBehind t (λ c. have c + bit_at ends c) cursors.new }
+    ensures epoch { cursors.new.epoch ≡ cursors.old.epoch }
     ensures feed { (t : Trace) (have : ℕ → ℕ) → AreBehind t have cursors.old → t.channels ≡ channels.now
-        → IsFeed channels.now t.packets have feed.old → IsFeed channels.now t.packets (λ c. have c + bit_at ends c) feed.new }
+        → IsFeed channels.now (epoch_at t cursors.old) have feed.old
+        → IsFeed channels.now (epoch_at t cursors.new) (λ c. have c + bit_at ends c) feed.new }
 {
     cursors.advance(ends);
     fill(cursors, channels.as_slice(), ends, feed);
+}
+
+/// Goes on to the next epoch, which there is, and feeds its first events; of this one at most a start is left on each channel.
+pub(crate) fn follow_turn(cursors: &mut Cursors, channels: &Channels, feed: &mut Feed)
+    requires table { IsTable channels.now }
+    requires stands { (t : Trace) × (have : ℕ → ℕ) × AreBehind t have cursors.old × (t.channels ≡ channels.now)
+        × (cursors.old.epoch < resets t.packets)
+        × ((c : ℕ) → c < length t.channels → count Kind.End c (epoch_at t cursors.old) ≤ have c) }
+    requires over { IsFeedOver channels.now feed.old }
+    ensures over { IsFeedOver channels.now feed.new }
+    ensures behind { (t : Trace) (have : ℕ → ℕ) → AreBehind t have cursors.old → cursors.old.epoch < resets t.packets
+        → ((c : ℕ) → c < length t.channels → count Kind.End c (epoch_at t cursors.old) ≤ have c) → AreBehind t none_yet cursors.new }
+    ensures epoch { cursors.new.epoch ≡ cursors.old.epoch + 1 }
+    ensures feed { (t : Trace) → AreBehind t none_yet cursors.new → t.channels ≡ channels.now
+        → IsFeed channels.now (epoch_at t cursors.new) none_yet feed.new }
+{
+    cursors.turn();
+    refill(cursors, channels, feed);
 }

@@ -2,6 +2,7 @@
 
 ghost use Rattle.std.specs.Prelude.{◌≡◌, ◌≢◌, ◌+◌, ◌<◌, ◌≤◌, ◌++◌, [], ℕ, not, List, IfOk, length, slice_index, vec_len, vec_capacity};
 ghost use Rattle.std.specs.List.{filter, flat_map};
+ghost use Rattle.trace_code.specs.trace_model.declared.channel.Channel.{Channel as OneChannel};
 ghost use Rattle.trace_code.specs.trace_model.declared.event.Event.{Event as OneEvent};
 ghost use Rattle.trace_code.specs.trace_model.declared.packet.Packet.{Packet};
 ghost use Rattle.trace_code.specs.trace_model.declared.row.Row.{Row as OneRow};
@@ -9,12 +10,13 @@ ghost use Rattle.trace_code.specs.trace_model.declared.trace.Trace.{Trace};
 ghost use Rattle.trace_code.specs.trace_model.Counting.{IsNth};
 ghost use Rattle.trace_code.specs.trace_model.Packet.{does};
 ghost use Rattle.trace_code.specs.Stands.{Stands};
-ghost use Rattle.run_stage.specs.run_model.Held.{await_on, awaits, controlled, event, held, held_event, held_if, is_held, next_event, recorded_next, same_event, waits};
+ghost use Rattle.run_stage.specs.run_model.Held.{await_on, awaits, controlled_in, event_in, held_event, held_if, held_of, held_reset, is_held};
+ghost use Rattle.run_stage.specs.run_model.Held.{next_event_in, recorded_next_in, reset_event, same_event, waits_of, waits_reset};
 ghost use Rattle.run_stage.specs.run_model.Replay.{done};
-ghost use Rattle.replay_run.specs.Behind.{epoch_clock, AreBehind, IsBehind};
+ghost use Rattle.replay_run.specs.Behind.{epoch_at, epoch_clock, has_later, AreBehind};
 ghost use Rattle.replay_run.specs.Lists.{AreSpare, HasRoom, IsKept};
 
-use crate::cursors::{Cursors, cursor_of};
+use crate::cursors::{Cursors, cursor_of, has_next};
 use run_stage::run_model::{Await, Awaits, Held, Helds};
 use std::alloc::Global;
 use trace_code::Cursor;
@@ -22,21 +24,21 @@ use trace_code::trace_model::{Channel, Channels, Dir, Event, Events, Kind, Row, 
 use trace_code::vec_clock::Clock;
 use trace_code::vidi_bits::{Items, Memory};
 
-/// Room for the lists of *End of replay*. Only `new` takes memory.
+/// Room for the lists of *End of replay*: one event for each channel, and the reset. Only `new` takes memory.
 #[derive(Drop)]
 pub(crate) struct Lists {
     pub(crate) held: Vec<Held>,
     pub(crate) waits: Vec<Event>,
-    /// For each channel room for what an event of it awaits.
+    /// For each of these events room for what it awaits.
     pub(crate) awaits: Vec<Vec<Await>>,
 }
 
-/// For each of so many channels an empty list with room for as many.
-fn spare_lists(alloc: Global, channels: usize) -> Result<Vec<Vec<Await>>, Memory>
-    ensures { IfOk result (λ spare. AreSpare channels channels spare.items) }
+/// So many empty lists, each with room for one of each channel.
+fn spare_lists(alloc: Global, channels: usize, many: usize) -> Result<Vec<Vec<Await>>, Memory>
+    ensures { IfOk result (λ spare. AreSpare channels many spare.items) }
 {
-    let mut spare = Vec::with_capacity(alloc, channels)?;
-    for _ in 0..channels {
+    let mut spare = Vec::with_capacity(alloc, many)?;
+    for _ in 0..many {
         spare.push(Vec::with_capacity(alloc, channels)?)?;
     }
     Ok(spare)
@@ -45,11 +47,13 @@ fn spare_lists(alloc: Global, channels: usize) -> Result<Vec<Vec<Await>>, Memory
 impl Lists {
     /// Room for the lists of so many channels.
     pub(crate) fn new(alloc: Global, channels: usize) -> Result<Lists, Memory>
+        requires few { channels ≤ 128 }
         ensures { IfOk result (λ lists. HasRoom channels lists) }
     {
-        let held = Vec::with_capacity(alloc, channels)?;
-        let waits = Vec::with_capacity(alloc, channels)?;
-        let awaits = spare_lists(alloc, channels)?;
+        let events = channels + 1;
+        let held = Vec::with_capacity(alloc, events)?;
+        let waits = Vec::with_capacity(alloc, events)?;
+        let awaits = spare_lists(alloc, channels, events)?;
         Ok(Lists {
             held,
             waits,
@@ -121,18 +125,18 @@ fn put_event(
     requires room { vec_len out.old < vec_capacity out.old }
     ensures items { (t : Trace) (rows : List OneRow) → AreBehind t (done rows) cursors.now → t.channels ≡ channels.now
         → ((d : ℕ) → d < length channels.now → slice_index have.now d ≡ done rows d)
-        → out.new.items ≡ out.old.items ++ held_event channels.now t.packets rows (event c kind (done rows c)) }
+        → out.new.items ≡ out.old.items
+        ++ held_event channels.now (epoch_at t cursors.now) rows (event_in cursors.now.epoch c kind (done rows c)) }
     ensures len { vec_len out.new ≤ vec_len out.old + 1 }
     ensures capacity { vec_capacity out.new ≡ vec_capacity out.old }
 {
-    let cursor = cursor_of(cursors, kind, c);
-    if !cursor.at_end() {
-        list_awaits(&mut list, channels, have, cursor);
+    if has_next(cursors, kind, c) {
+        list_awaits(&mut list, channels, have, cursor_of(cursors, kind, c));
         let event = Event {
             channel: c,
             kind,
             index: have.get(c),
-            epoch: 0,
+            epoch: cursors.epoch,
         };
         put_held(out, event, Items::from_vec(list));
     }
@@ -157,7 +161,8 @@ fn put_controlled(
     requires room { vec_len out.old < vec_capacity out.old }
     ensures items { (t : Trace) (rows : List OneRow) → AreBehind t (done rows) cursors.now → t.channels ≡ channels.now
         → IsKept (length channels.now) rows have.now last.now
-        → out.new.items ≡ out.old.items ++ flat_map (held_event channels.now t.packets rows) (controlled rows c dir) }
+        → out.new.items ≡ out.old.items
+        ++ flat_map (held_event channels.now (epoch_at t cursors.now) rows) (controlled_in cursors.now.epoch rows c dir) }
     ensures len { vec_len out.new ≤ vec_len out.old + 1 }
     ensures capacity { vec_capacity out.new ≡ vec_capacity out.old }
 {
@@ -171,8 +176,46 @@ fn put_controlled(
     }
 }
 
-/// What a replay holds back: in channel order, each next event that the replayers control, where it is recorded and its clock
-/// isn't covered, with everything that it awaits. `out` and the lists of `spare` are empty, with room for one of each channel.
+/// The reset behind this epoch, which has the epoch's number among the resets.
+fn reset_event(epoch: u32) -> Event
+    ensures { result ≡ reset_event epoch }
+{
+    Event {
+        channel: 0,
+        kind: Kind::Reset,
+        index: epoch,
+        epoch,
+    }
+}
+
+/// Adds the reset behind the epoch, where there is one and it is held back. `list` is empty, with room for one await of each channel, and `out`
+/// has room for the event.
+fn put_reset(
+    out: &mut Vec<Held>,
+    mut list: Vec<Await>,
+    channels: &[Channel],
+    cursors: &Cursors,
+    have: &Clock,
+)
+    requires stands { (t : Trace) × (before : ℕ → ℕ) × AreBehind t before cursors.now × (t.channels ≡ channels.now) }
+    requires have { length have.now ≡ length channels.now }
+    requires empty { list.items ≡ [] }
+    requires list { vec_len list + length channels.now ≤ vec_capacity list }
+    requires room { vec_len out.old < vec_capacity out.old }
+    ensures { (t : Trace) (rows : List OneRow) → AreBehind t (done rows) cursors.now → t.channels ≡ channels.now
+        → ((d : ℕ) → d < length channels.now → slice_index have.now d ≡ done rows d)
+        → out.new.items ≡ out.old.items
+        ++ held_reset cursors.now.epoch (has_later t cursors.now) channels.now (epoch_at t cursors.now) rows }
+{
+    if !cursors.reset.at_end() {
+        list_awaits(&mut list, channels, have, &cursors.reset);
+        put_held(out, reset_event(cursors.epoch), Items::from_vec(list));
+    }
+}
+
+/// What a replay holds back: in channel order, each next event of the epoch that the replayers control, where it is recorded and its clock
+/// isn't covered, and last the epoch's reset, each with everything that it awaits. `out` and the lists of `spare` are empty, with room for
+/// one of each channel and one more.
 fn list_held(
     mut out: Vec<Held>,
     mut spare: Vec<Vec<Await>>,
@@ -184,10 +227,11 @@ fn list_held(
     requires stands { (t : Trace) × (before : ℕ → ℕ) × AreBehind t before cursors.now × (t.channels ≡ channels.now) }
     requires have { length have.now ≡ length channels.now }
     requires empty { out.items ≡ [] }
-    requires room { vec_len out + length channels.now ≤ vec_capacity out }
-    requires spare { AreSpare (length channels.now) (length channels.now) spare.items }
+    requires room { vec_len out + (length channels.now + 1) ≤ vec_capacity out }
+    requires spare { AreSpare (length channels.now) (length channels.now + 1) spare.items }
     ensures { (t : Trace) (rows : List OneRow) → AreBehind t (done rows) cursors.now → t.channels ≡ channels.now
-        → IsKept (length channels.now) rows have.now last.now → result ≡ held channels.now t.packets rows }
+        → IsKept (length channels.now) rows have.now last.now
+        → result ≡ held_of cursors.now.epoch (has_later t cursors.now) channels.now (epoch_at t cursors.now) rows }
 {
     for (c, channel) in channels.iter().enumerate() {
         let list = spare.take_last();
@@ -202,17 +246,16 @@ fn list_held(
             channel.dir,
         );
     }
+    put_reset(&mut out, spare.take_last(), channels, cursors, have);
     Items::from_vec(out)
 }
 
-/// The next event of channel `c`: a start while it is idle, else the completion.
-fn next_event(have: &Clock, last: &Row, c: usize) -> Event
+/// The next event of channel `c` in this epoch: a start while it is idle, else the completion.
+fn next_event(have: &Clock, last: &Row, c: usize, epoch: u32) -> Event
     requires { c < length have.now }
     ensures channel { result.channel ≡ c }
-    ensures index { result.index ≡ slice_index have.now c }
-    ensures epoch { result.epoch ≡ 0 }
     ensures kind { result.kind ≢ Kind.Reset }
-    ensures next { (n : ℕ) (rows : List OneRow) → IsKept n rows have.now last.now → c < n → result ≡ next_event rows c }
+    ensures next { (n : ℕ) (rows : List OneRow) → IsKept n rows have.now last.now → c < n → result ≡ next_event_in epoch rows c }
 {
     let kind = if is_in_flight(last, c) {
         Kind::End
@@ -223,7 +266,7 @@ fn next_event(have: &Clock, last: &Row, c: usize) -> Event
         channel: c,
         kind,
         index: have.get(c),
-        epoch: 0,
+        epoch,
     }
 }
 
@@ -259,18 +302,34 @@ fn put_wait(
     requires room { vec_len out.old < vec_capacity out.old }
     ensures items { (t : Trace) (rows : List OneRow) → AreBehind t (done rows) cursors.now
         → IsKept (length t.channels) rows have.now last.now → c < length t.channels
-        → out.new.items ≡ out.old.items ++ filter (λ (e : OneEvent). not (is_held helds.now e)) (recorded_next t.packets rows c) }
+        → out.new.items ≡ out.old.items ++ filter (λ (e : OneEvent). not (is_held helds.now e))
+        (recorded_next_in cursors.now.epoch (epoch_at t cursors.now) rows c) }
     ensures len { vec_len out.new ≤ vec_len out.old + 1 }
     ensures capacity { vec_capacity out.new ≡ vec_capacity out.old }
 {
-    let event = next_event(have, last, c);
-    if !cursor_of(cursors, event.kind, c).at_end() && !is_held(helds, event) {
+    let event = next_event(have, last, c, cursors.epoch);
+    if has_next(cursors, event.kind, c) && !is_held(helds, event) {
         out.push_reserved(event);
     }
 }
 
-/// What a replay waits for: in channel order, each channel's next recorded event that isn't held back. `out` is empty, with room for
-/// one of each channel.
+/// Adds the reset behind the epoch, where there is one and it isn't held back. There is room for it.
+fn put_reset_wait(out: &mut Vec<Event>, helds: &[Held], cursors: &Cursors)
+    requires stands { (t : Trace) × (before : ℕ → ℕ) × AreBehind t before cursors.now }
+    requires room { vec_len out.old < vec_capacity out.old }
+    ensures { (t : Trace) (have : ℕ → ℕ) (channels : List OneChannel) (rows : List OneRow) → AreBehind t have cursors.now
+        → helds.now ≡ held_of cursors.now.epoch (has_later t cursors.now) channels (epoch_at t cursors.now) rows
+        → out.new.items ≡ out.old.items
+        ++ waits_reset cursors.now.epoch (has_later t cursors.now) channels (epoch_at t cursors.now) rows }
+{
+    let event = reset_event(cursors.epoch);
+    if !cursors.reset.at_end() && !is_held(helds, event) {
+        out.push_reserved(event);
+    }
+}
+
+/// What a replay waits for: in channel order, each channel's next recorded event of the epoch that isn't held back, and last the epoch's
+/// reset. `out` is empty, with room for one of each channel and one more.
 fn list_waits(
     mut out: Vec<Event>,
     helds: &[Held],
@@ -282,14 +341,16 @@ fn list_waits(
     requires stands { (t : Trace) × (before : ℕ → ℕ) × AreBehind t before cursors.now × (t.channels ≡ channels.now) }
     requires have { length have.now ≡ length channels.now }
     requires empty { out.items ≡ [] }
-    requires room { vec_len out + length channels.now ≤ vec_capacity out }
+    requires room { vec_len out + (length channels.now + 1) ≤ vec_capacity out }
     ensures { (t : Trace) (rows : List OneRow) → AreBehind t (done rows) cursors.now → t.channels ≡ channels.now
-        → IsKept (length channels.now) rows have.now last.now → helds.now ≡ held channels.now t.packets rows
-        → result ≡ waits channels.now t.packets rows }
+        → IsKept (length channels.now) rows have.now last.now
+        → helds.now ≡ held_of cursors.now.epoch (has_later t cursors.now) channels.now (epoch_at t cursors.now) rows
+        → result ≡ waits_of cursors.now.epoch (has_later t cursors.now) channels.now (epoch_at t cursors.now) rows }
 {
     for (c, _channel) in channels.iter().enumerate() {
         put_wait(&mut out, helds, cursors, have, last, c);
     }
+    put_reset_wait(&mut out, helds, cursors);
     Items::from_vec(out)
 }
 
@@ -306,9 +367,11 @@ pub(crate) fn held_and_waits(
     requires have { length have.now ≡ length channels.now }
     requires stands { (t : Trace) × (before : ℕ → ℕ) × AreBehind t before cursors.now × (t.channels ≡ channels.now) }
     ensures held { (t : Trace) (rows : List OneRow) → AreBehind t (done rows) cursors.now → t.channels ≡ channels.now
-        → IsKept (length channels.now) rows have.now last.now → result.0 ≡ held channels.now t.packets rows }
+        → IsKept (length channels.now) rows have.now last.now
+        → result.0 ≡ held_of cursors.now.epoch (has_later t cursors.now) channels.now (epoch_at t cursors.now) rows }
     ensures waits { (t : Trace) (rows : List OneRow) → AreBehind t (done rows) cursors.now → t.channels ≡ channels.now
-        → IsKept (length channels.now) rows have.now last.now → result.1 ≡ waits channels.now t.packets rows }
+        → IsKept (length channels.now) rows have.now last.now
+        → result.1 ≡ waits_of cursors.now.epoch (has_later t cursors.now) channels.now (epoch_at t cursors.now) rows }
 {
     let Lists {
         held,

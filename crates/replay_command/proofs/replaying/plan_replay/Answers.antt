@@ -67,7 +67,6 @@ returns-clause-planned g c =
     rw c.as_slice-2.ensures at (rw c.as_slice.ensures at c.plan_texts.ensures.device) in
     replayable-said c.args.design.now c.args.map.now c.args.trace.now files design map bytes c.plan_texts.result
     c.in_ok-design.ensures.read map-read trace-read device c.plan_texts.ensures.encodes c.plan_texts.ensures.same
-    c.plan_texts.ensures.no_reset
 
 pub returns-clause-encodes : goal.returns-clause-encodes
 returns-clause-encodes g c = bytes-encode c.in_ok-bytes.bytes c.plan_texts.result c.plan_texts.ensures.bytes c.plan_texts.ensures.encodes

@@ -6,4 +6,4 @@ pub returns : goal.returns
 returns g c =
     if-ends c.replay.result c.replay.ensures.replayed (λ a played t encodes.
     let is = played t (g.B.Block.design c.args.block) _ [] encodes c.in_ok-shell.ensures.runs in
-    (is.rows, is.ends, is.out))
+    (is.past, is.here, is.ends, is.out))

@@ -9,6 +9,7 @@ returns c =
     if-ends c.replay_block.result c.replay_block.ensures (λ a played t encodes.
     let is = played t encodes in (
       is.0,
-      subst (λ (d : Design). EndsAs d c.args.map.now t.packets c.args.cycles is.0 a.outcome) c.in_ok-sim.ensures.design is.1,
-      is.2,
+      is.1,
+      subst (λ (d : Design). EndsAs d c.args.map.now t.packets c.args.cycles is.0 is.1 a.outcome) c.in_ok-sim.ensures.design is.2,
+      is.3,
     ))

@@ -1,52 +1,46 @@
-use Rattle.std.proofs.Common.{◌+◌, min}
+use Rattle.std.proofs.Common.{◌+◌, ◌<◌}
+use Rattle.trace_code.specs.trace_model.Epoch.{epoch}
 use Rattle.trace_code.specs.trace_model.Packet.{count}
 use Rattle.replay_run.specs.Behind.{IsBehind}
-use Rattle.replay_run.proofs.Forward.{ended-when, further, may-step, more, next, no-further, stays}
+use Rattle.replay_run.proofs.Forward.{may-step, next, no-further, stand, stays, up-when}
 use Rattle.replay_run.proofs.cursors.forward.Goals as goal
 
-pub returns-then-at_end-clause-more : goal.returns-then-at_end-clause-more
-returns-then-at_end-clause-more c t kind channel n is =
-    no-further t kind channel n ((ended-when t kind channel n c.args.cursor.now c.at_end.result is (c.at_end.ensures t)).0 c.if-at_end.true)
+pub returns-then-not-is_in-clause-behind : goal.returns-then-not-is_in-clause-behind
+returns-then-not-is_in-clause-behind c t kind channel n is =
+    stays t c.args.epoch kind channel n c.args.cursor.now c.is_in.result c.if-not-is_in.true (c.is_in.ensures t kind channel n is) is
 
-pub returns-then-at_end-clause-behind : goal.returns-then-at_end-clause-behind
-returns-then-at_end-clause-behind c t kind channel n is =
-    stays t kind channel n c.args.cursor.now is ((ended-when t kind channel n c.args.cursor.now c.at_end.result is (c.at_end.ensures t)).0 c.if-at_end.true)
+pub returns-then-not-is_in-clause-more : goal.returns-then-not-is_in-clause-more
+returns-then-not-is_in-clause-more c t kind channel n is =
+    no-further t c.args.epoch kind channel n c.is_in.result c.if-not-is_in.true (c.is_in.ensures t kind channel n is)
 
 pub step-requires : goal.step-requires
 step-requires c =
-    let k = c.args.cursor.now in
-    let is = c.requires.4 in (
-      c.requires.0,
-      min c.requires.3 (count c.requires.1 c.requires.2 c.requires.0.packets),
-      is.stands,
-      may-step c.requires.0 c.requires.1 c.requires.2 c.requires.3 k is
-          (more c.requires.0 c.requires.1 c.requires.2 c.requires.3 k c.at_end.result c.if-at_end.false
-          (ended-when c.requires.0 c.requires.1 c.requires.2 c.requires.3 k c.at_end.result is (c.at_end.ensures c.requires.0))),
+    let w = c.requires in
+    let l = up-when c.is_in.result c.if-not-is_in.false (c.is_in.ensures w.0 w.1 w.2 w.3 w.4) in (
+      w.0,
+      stand w.0 c.args.epoch w.1 w.2 w.3,
+      w.4.stands,
+      may-step w.0 c.args.epoch w.1 w.2 w.3 c.args.cursor.now w.4 l,
     )
 
-pub at_end-requires-2 : goal.at_end-requires-2
-at_end-requires-2 c =
-    let t = c.requires.0 in
-    let k = c.args.cursor.now in
-    let is = c.requires.4 in
-    let now : IsBehind t c.requires.1 c.requires.2 (c.requires.3 + 1) c.step.new.self =
-    next t c.requires.1 c.requires.2 c.requires.3 k c.step.new.self is
-    (more t c.requires.1 c.requires.2 c.requires.3 k c.at_end.result c.if-at_end.false
-    (ended-when t c.requires.1 c.requires.2 c.requires.3 k c.at_end.result is (c.at_end.ensures t)))
-    c.step.ensures.over (c.step.ensures.stands t) in
-    (t, min (c.requires.3 + 1) (count c.requires.1 c.requires.2 t.packets), now.stands)
+pub is_in-requires-2 : goal.is_in-requires-2
+is_in-requires-2 c =
+    let w = c.requires in
+    let l = up-when c.is_in.result c.if-not-is_in.false (c.is_in.ensures w.0 w.1 w.2 w.3 w.4) in (
+      w.0,
+      w.1,
+      w.2,
+      w.3 + 1,
+      next w.0 c.args.epoch w.1 w.2 w.3 c.args.cursor.now c.step.new.self w.4 l c.step.ensures.over (c.step.ensures.stands w.0),
+    )
 
-pub returns : goal.returns
-returns c =
-    let k = c.args.cursor.now in
-    record {
-      behind = λ t kind channel n is. next t kind channel n k c.step.new.self is
-          (more t kind channel n k c.at_end.result c.if-at_end.false (ended-when t kind channel n k c.at_end.result is (c.at_end.ensures t)))
-          c.step.ensures.over (c.step.ensures.stands t);
-      more = λ t kind channel n is.
-          (let now = next t kind channel n k c.step.new.self is
-          (more t kind channel n k c.at_end.result c.if-at_end.false (ended-when t kind channel n k c.at_end.result is (c.at_end.ensures t)))
-          c.step.ensures.over (c.step.ensures.stands t) in
-          further t kind channel (n + 1) c.at_end-2.result
-          (ended-when t kind channel (n + 1) c.step.new.self c.at_end-2.result now (c.at_end-2.ensures t)));
-    }
+pub returns-clause-behind : goal.returns-clause-behind
+returns-clause-behind c t kind channel n is =
+    let l = up-when c.is_in.result c.if-not-is_in.false (c.is_in.ensures t kind channel n is) in
+    next t c.args.epoch kind channel n c.args.cursor.now c.step.new.self is l c.step.ensures.over (c.step.ensures.stands t)
+
+pub returns-clause-more : goal.returns-clause-more
+returns-clause-more c t kind channel n is =
+    let l = up-when c.is_in.result c.if-not-is_in.false (c.is_in.ensures t kind channel n is) in
+    c.is_in-2.ensures t kind channel (n + 1)
+    (next t c.args.epoch kind channel n c.args.cursor.now c.step.new.self is l c.step.ensures.over (c.step.ensures.stands t))

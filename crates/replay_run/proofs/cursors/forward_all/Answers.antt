@@ -6,7 +6,7 @@ use Rattle.replay_run.proofs.cursors.forward_all.Goals as goal
 use Rattle.replay_run.proofs.cursors.forward_all.Goals.{then-names, else-names}
 
 pub loop-c-init : goal.loop-c-init
-loop-c-init c t kind have are = moved-first t kind have c.args.ends c.args.cursors.now c.args.more are
+loop-c-init c t kind have are = moved-first t c.args.epoch kind have c.args.ends c.args.cursors.now c.args.more are
 
 pub forward-requires : goal.forward-requires
 forward-requires c =
@@ -19,8 +19,8 @@ forward-requires c =
       c.requires.1,
       c.loop-c.c,
       moved have c.args.ends c.loop-c.c c.loop-c.c,
-      subst (IsBehind c.requires.0 c.requires.1 c.loop-c.c (moved have c.args.ends c.loop-c.c c.loop-c.c)) c.index-cursors-c.is
-          (cursor-there c.requires.0 c.requires.1 (moved have c.args.ends c.loop-c.c) c.loop-c.cursors c.loop-c.left c.loop-c.c k are (omega (arith, l, long))
+      subst (IsBehind c.requires.0 c.args.epoch c.requires.1 c.loop-c.c (moved have c.args.ends c.loop-c.c c.loop-c.c)) c.index-cursors-c.is
+          (cursor-there c.requires.0 c.args.epoch c.requires.1 (moved have c.args.ends c.loop-c.c) c.loop-c.cursors c.loop-c.c k are.all (omega (arith, l, long))
           c.index-cursors-c.is),
     )
 
@@ -30,17 +30,17 @@ loop-c-preserved c t kind have are = elim c.if-names.branch [
       let l = c.loop-c-test.true in
       let long = c.loop-c.auto.cursors in
       let within : c.loop-c.c < length c.loop-c.cursors = omega (arith, l, long) in
-      let now = subst (IsBehind t kind c.loop-c.c (moved have c.args.ends c.loop-c.c c.loop-c.c)) w.index-cursors-c.is
-      (cursor-there t kind (moved have c.args.ends c.loop-c.c) c.loop-c.cursors c.loop-c.left c.loop-c.c w.index-cursors-c.result at within w.index-cursors-c.is) in
-      subst (λ (ks : List Cursor). AreAt t kind (moved have c.args.ends (c.loop-c.c + 1)) ks c.if-names.left) (sym w.cursors-is)
-      (subst (AreAt t kind (moved have c.args.ends (c.loop-c.c + 1)) (set c.loop-c.cursors c.loop-c.c w.forward.new.cursor)) (sym w.left-is)
-      (moved-one t kind have c.args.ends c.loop-c.c c.loop-c.cursors c.loop-c.left w.with_bit_as-left.result w.forward.new.cursor w.forward.result within
+      let now = subst (IsBehind t c.args.epoch kind c.loop-c.c (moved have c.args.ends c.loop-c.c c.loop-c.c)) w.index-cursors-c.is
+      (cursor-there t c.args.epoch kind (moved have c.args.ends c.loop-c.c) c.loop-c.cursors c.loop-c.c w.index-cursors-c.result at.all within w.index-cursors-c.is) in
+      subst (λ (ks : List Cursor). AreAt t c.args.epoch kind (moved have c.args.ends (c.loop-c.c + 1)) ks c.if-names.left) (sym w.cursors-is)
+      (subst (AreAt t c.args.epoch kind (moved have c.args.ends (c.loop-c.c + 1)) (set c.loop-c.cursors c.loop-c.c w.forward.new.cursor)) (sym w.left-is)
+      (moved-one t c.args.epoch kind have c.args.ends c.loop-c.c c.loop-c.cursors c.loop-c.left w.with_bit_as-left.result w.forward.new.cursor w.forward.result within
       (sym c.names.ensures ∙ w.if-names.true) at (w.forward.ensures.behind t kind c.loop-c.c (moved have c.args.ends c.loop-c.c c.loop-c.c) now)
       (w.forward.ensures.more t kind c.loop-c.c (moved have c.args.ends c.loop-c.c c.loop-c.c) now)
       w.with_bit_as-left.ensures.here w.with_bit_as-left.ensures.others)))
-  | else-names w ↦ subst (λ (ks : List Cursor). AreAt t kind (moved have c.args.ends (c.loop-c.c + 1)) ks c.if-names.left) (sym w.cursors-is)
-      (subst (AreAt t kind (moved have c.args.ends (c.loop-c.c + 1)) c.loop-c.cursors) (sym w.left-is)
-      (moved-none t kind have c.args.ends c.loop-c.c c.loop-c.cursors c.loop-c.left (sym c.names.ensures ∙ w.if-names.false)
+  | else-names w ↦ subst (λ (ks : List Cursor). AreAt t c.args.epoch kind (moved have c.args.ends (c.loop-c.c + 1)) ks c.if-names.left) (sym w.cursors-is)
+      (subst (AreAt t c.args.epoch kind (moved have c.args.ends (c.loop-c.c + 1)) c.loop-c.cursors) (sym w.left-is)
+      (moved-none t c.args.epoch kind have c.args.ends c.loop-c.c c.loop-c.cursors c.loop-c.left (sym c.names.ensures ∙ w.if-names.false)
       (c.loop-c.invariant t kind have are)))
 ]
 
@@ -51,12 +51,12 @@ with_bit_as-left-requires c =
     let k = c.index-cursors-c.result in
     let l = c.loop-c-test.true in
     let long = c.loop-c.auto.cursors in
-    let m = are.many in
-    let few = few-channels c.requires.0 c.requires.1 c.loop-c.c (moved have c.args.ends c.loop-c.c c.loop-c.c) k
-    (cursor-there c.requires.0 c.requires.1 (moved have c.args.ends c.loop-c.c) c.loop-c.cursors c.loop-c.left c.loop-c.c k are (omega (arith, l, long))
+    let m = are.all.many in
+    let few = few-channels c.requires.0 c.args.epoch c.requires.1 c.loop-c.c (moved have c.args.ends c.loop-c.c c.loop-c.c) k
+    (cursor-there c.requires.0 c.args.epoch c.requires.1 (moved have c.args.ends c.loop-c.c) c.loop-c.cursors c.loop-c.c k are.all (omega (arith, l, long))
     c.index-cursors-c.is) in
     omega (arith, l, long, m, few)
 
 pub returns : goal.returns
-returns c t kind have are = moved-all t kind have c.args.ends c.loop-c.c c.loop-c.cursors c.loop-c.left
+returns c t kind have are = moved-all t c.args.epoch kind have c.args.ends c.loop-c.c c.loop-c.cursors c.loop-c.left
     (let l = c.loop-c-test.false in let long = c.loop-c.auto.cursors in omega (arith, l, long)) (c.loop-c.invariant t kind have are)

@@ -6,5 +6,5 @@ use Rattle.replay_run.proofs.Forward.{moved}
 use Rattle.replay_run.proofs.cursors.forward_all.Given as goal
 
 abbrev pub invariant-loop-c : goal.invariant-loop-c
-invariant-loop-c l = (t : Trace) (kind : Kind) (have : ℕ → ℕ) → AreAt t kind have l.fn.cursors l.more
-    → AreAt t kind (moved have l.ends l.c) l.cursors l.left
+invariant-loop-c l = (t : Trace) (kind : Kind) (have : ℕ → ℕ) → AreAt t l.epoch kind have l.fn.cursors l.more
+    → AreAt t l.epoch kind (moved have l.ends l.c) l.cursors l.left

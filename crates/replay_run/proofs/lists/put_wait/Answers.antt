@@ -1,34 +1,31 @@
-use Rattle.std.proofs.Common.{min, sym, ◌∙◌}
-use Rattle.trace_code.specs.trace_model.Packet.{count}
+use Rattle.std.proofs.Common.{sym, ◌∙◌}
 use Rattle.run_stage.specs.run_model.Replay.{done}
-use Rattle.replay_run.proofs.Listing.{event-known, wait-held, wait-past, wait-put}
+use Rattle.replay_run.specs.Behind.{epoch_at}
+use Rattle.replay_run.proofs.Listing.{next-known, starts-known, wait-held, wait-past, wait-put}
 use Rattle.replay_run.proofs.lists.put_wait.Goals as goal
-use Rattle.replay_run.proofs.lists.put_wait.Goals.{else-not-at_end-via-then-not-at_end+else-not-is_held, else-not-at_end-via-else-not-at_end}
-
-pub at_end-requires : goal.at_end-requires
-at_end-requires c =
-    let s = c.requires.stands in
-    let b = c.cursor_of.ensures s.0 s.1 s.2 s.3 in
-    (s.0, min (s.1 c.args.c) (count c.next_event-event.result.kind c.args.c s.0.packets), b.stands)
+use Rattle.replay_run.proofs.lists.put_wait.Goals.{else-has_next-via-then-has_next+else-not-is_held, else-has_next-via-else-has_next}
 
 pub returns-then-not-is_held-clause-items : goal.returns-then-not-is_held-clause-items
 returns-then-not-is_held-clause-items c t rows are kept l =
+    let n = c.args.cursors.now.epoch in
     let e = c.next_event-event in
-    let b = c.cursor_of.ensures t (done rows) are l in
-    let known = event-known e.result c.args.c (done rows c.args.c) e.ensures.channel (e.ensures.index ∙ kept.counts c.args.c l) e.ensures.epoch in
-    wait-put t rows c.args.c e.result c.cursor_of.result.now c.at_end.result c.args.helds.now c.args.out.now.items b known
-    (e.ensures.next _ rows kept l) (c.at_end.ensures t) c.push_reserved.new.self.items c.if-not-at_end.true
+    let next = e.ensures.next _ rows kept l in
+    wait-put n (epoch_at t c.args.cursors.now) rows c.args.c e.result c.has_next.result c.args.helds.now c.args.out.now.items
+    (next-known n rows c.args.c e.result next (starts-known _ rows c.args.have.now c.args.last.now c.args.c kept l)) next
+    (c.has_next.ensures t (done rows) are l) c.push_reserved.new.self.items c.if-has_next.true
     (sym c.is_held.ensures ∙ c.if-not-is_held.true) c.push_reserved.ensures.items
 
-pub returns-else-not-at_end-clause-items : goal.returns-else-not-at_end-clause-items
-returns-else-not-at_end-clause-items c t rows are kept l =
+pub returns-else-has_next-clause-items : goal.returns-else-has_next-clause-items
+returns-else-has_next-clause-items c t rows are kept l =
+    let n = c.args.cursors.now.epoch in
+    let here = epoch_at t c.args.cursors.now in
     let e = c.next_event-event in
-    let b = c.cursor_of.ensures t (done rows) are l in
-    let known = event-known e.result c.args.c (done rows c.args.c) e.ensures.channel (e.ensures.index ∙ kept.counts c.args.c l) e.ensures.epoch in
-    elim c.else-not-at_end.branch [
-      | else-not-at_end-via-then-not-at_end+else-not-is_held w ↦ wait-held t rows c.args.c e.result c.cursor_of.result.now c.at_end.result
-          c.args.helds.now c.args.out.now.items b known (e.ensures.next _ rows kept l) (c.at_end.ensures t) w.if-not-at_end.true
-          (sym w.is_held.ensures ∙ w.if-not-is_held.false)
-      | else-not-at_end-via-else-not-at_end w ↦ wait-past t rows c.args.c e.result c.cursor_of.result.now c.at_end.result c.args.helds.now
-          c.args.out.now.items b known (e.ensures.next _ rows kept l) (c.at_end.ensures t) w.if-not-at_end.false
+    let next = e.ensures.next _ rows kept l in
+    let known = next-known n rows c.args.c e.result next (starts-known _ rows c.args.have.now c.args.last.now c.args.c kept l) in
+    let says = c.has_next.ensures t (done rows) are l in
+    elim c.else-has_next.branch [
+      | else-has_next-via-then-has_next+else-not-is_held w ↦ wait-held n here rows c.args.c e.result c.has_next.result
+          c.args.helds.now c.args.out.now.items known next says w.if-has_next.true (sym w.is_held.ensures ∙ w.if-not-is_held.false)
+      | else-has_next-via-else-has_next w ↦ wait-past n here rows c.args.c e.result c.has_next.result c.args.helds.now
+          c.args.out.now.items known next says w.if-has_next.false
     ]

@@ -1,17 +1,15 @@
-use Rattle.std.proofs.lemmas.Bool.{eqb-true, eq-eqb}
-use Rattle.replay_run.proofs.Forward.{all-done, ends-done, starts-done}
+use Rattle.std.proofs.Common.{sym, ◌∙◌}
+use Rattle.std.proofs.lemmas.Bool.{false≢true}
+use Rattle.replay_run.proofs.Forward.{ended-shown, ended-yes}
 use Rattle.replay_run.proofs.cursors.Cursors.has_ended.Goals as goal
 
-pub returns-then-self-eq0 : goal.returns-then-self-eq0
-returns-then-self-eq0 c t have are = (
-  λ r. all-done t have c.args.self.now c.args.last.now c.in_flight.result c.without.result are c.in_flight.ensures c.without.ensures.each c.if-self-eq0.true
-      (eqb-true c.without.result 0 r),
-  λ all. eq-eqb c.without.result 0
-      (starts-done t have c.args.self.now c.args.last.now c.in_flight.result c.without.result are c.in_flight.ensures c.without.ensures.each all),
-)
+pub returns-then-are_shown : goal.returns-then-are_shown
+returns-then-are_shown c t have are =
+    let shown = c.are_shown.ensures.0 c.if-are_shown.true in
+    ended-yes t have c.args.self.now c.args.last.now c.at_end.result are c.at_end.ensures shown.0 shown.1
 
-pub returns-else-self-eq0 : goal.returns-else-self-eq0
-returns-else-self-eq0 c t have are = (
-  λ r. absurd (c.if-self-eq0.false (eqb-true c.args.self.now.ends.more 0 r)),
-  λ all. absurd (c.if-self-eq0.false (ends-done t have c.args.self.now c.args.last.now are all)),
+pub returns-else-are_shown : goal.returns-else-are_shown
+returns-else-are_shown c t have are = (
+  λ r. absurd (false≢true (sym c.if-are_shown.false ∙ r)),
+  λ x. c.are_shown.ensures.1 (ended-shown t have c.args.self.now c.args.last.now are x.1),
 )

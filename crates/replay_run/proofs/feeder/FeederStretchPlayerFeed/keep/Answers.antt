@@ -11,7 +11,7 @@ use Rattle.replay_run.specs.Standing.{IsNextRow}
 use Rattle.replay_run.proofs.Playing.{done-push, kept-here, last-unmarked, room-left}
 use Rattle.run_stage.proofs.Turning.{over-last}
 use Rattle.trace_code.proofs.RowsBytes.{end-within, rows-few}
-use Rattle.replay_run.proofs.feeder.FeederPlayerFeed.keep.Goals as goal
+use Rattle.replay_run.proofs.feeder.FeederStretchPlayerFeed.keep.Goals as goal
 
 pub push-requires-clause-over : goal.push-requires-clause-over
 push-requires-clause-over c =

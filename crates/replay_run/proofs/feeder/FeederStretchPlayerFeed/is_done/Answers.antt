@@ -3,7 +3,7 @@ use Rattle.std.specs.Prelude.{◌↔◌}
 use Rattle.run_stage.specs.run_model.Replay.{done, HasEnded}
 use Rattle.replay_run.proofs.Forward.{no-resets}
 use Rattle.replay_run.proofs.Playing.{ended-when, some-replay}
-use Rattle.replay_run.proofs.feeder.FeederPlayerFeed.is_done.Goals as goal
+use Rattle.replay_run.proofs.feeder.FeederStretchPlayerFeed.is_done.Goals as goal
 
 pub returns : goal.returns
 returns c first rows stands ruled last t opened =

@@ -3,7 +3,7 @@ use Rattle.run_stage.specs.chan_map.declared.pins.Map.{Map}
 use Rattle.run_stage.specs.chan_replayer.Feed.{IsFeed}
 use Rattle.run_stage.specs.run_model.Replay.{done}
 use Rattle.run_stage.proofs.chan_replayer_lemmas.Offering.{offered}
-use Rattle.replay_run.proofs.feeder.FeederPlayerFeed.given.Goals as goal
+use Rattle.replay_run.proofs.feeder.FeederStretchPlayerFeed.given.Goals as goal
 
 pub returns-clause-ruled : goal.returns-clause-ruled
 returns-clause-ruled c first rows row stands shown unmarked t opened =
