@@ -49,7 +49,7 @@ REFUSED = {
     "wrap": {"design": DESIGN + rb"|reserved X|wrapped has EN|wrapped text too long", "map": MAP},
 }
 FINDINGS = rb"(?:(?:epoch N|differs CH start N|(?:missing|extra) (?:CH (?:start|end)|reset) N|early CH (?:start|end) N count N)\n)+diverged\n"
-EVENTS = rb"(?:N start CH(?: N)*\n|N end CH\n)*"
+EVENTS = rb"(?:N reset\n|N start CH(?: N)*\n|N end CH\n)*"
 UNSTABLE = rb"vidi: unstable CH cycle N\n"
 SAID = {
     ("check", 0): rb"modules N items N\ninstances N nets N drivers N blocks N words N\n",
