@@ -156,11 +156,11 @@ def by_hand():
 
 
 def cut_off(case, stalls):
-    """Each append of a recording fails in turn and keeps nothing, or the first half of its bytes; what is there is salvaged."""
+    """Each append of a recording fails in turn and keeps none, or any number, of its bytes; what is there is salvaged."""
     pieces = case.appends(stalls)
     out = [part("--", "s", case.script_text) + part("--", "p", stalls)]
     for number, piece in enumerate(pieces):
-        for kept in (0, len(piece) // 2):
+        for kept in range(len(piece)):
             content = b"".join(pieces[:number]) + piece[:kept]
             out.append(f"== record d m s p trace\n!! append {number + 1}{f' keeps {kept}' * (kept > 0)}\n" + part(">>", "3", "") +
                        digits(">x", "trace", content) + "++ salvage trace out\n")
