@@ -1,5 +1,5 @@
 -- A recorder keeps a row, over plain values.
-use Rattle.std.proofs.Common.{◌≡◌, ℕ, ◌+◌, ◌-◌, ◌*◌, ◌<◌, ◌≤◌, ◌&&◌, Bool, true, false, not, nat_lt, cond, List, [], ◌∷◌, ◌++◌, Option, length, drop, take}
+use Rattle.std.proofs.Common.{◌≡◌, ℕ, ◌+◌, ◌-◌, ◌*◌, ◌≤◌, ◌&&◌, Bool, true, false, not, nat_lt, cond, List, [], ◌∷◌, ◌++◌, Option, length, drop, take}
 use Rattle.std.proofs.Common.{refl, subst, sym, ap, ◌∙◌, append_assoc, add-one, arith}
 use Rattle.std.specs.Io.KnownBytes.{append_known}
 use Rattle.std.proofs.lemmas.Bool.{and_parts}
@@ -21,15 +21,15 @@ use Rattle.env_script.specs.Offer.{Offer}
 use Rattle.env_script.specs.Offered.{AreLasting}
 use Rattle.env_script.specs.Plan.{allowance_at}
 use Rattle.env_script.specs.Resets.{is_due}
-use Rattle.room_ledger.specs.Gates.{Plan, drained, fresh_at, left, permit_at}
+use Rattle.room_ledger.specs.Gates.{Plan, drained, left, permit_at}
 use Rattle.room_ledger.specs.Ledger.{Ledger, Emitted, MayEmit, Regranted, may_reset}
 use Rattle.room_ledger.proofs.Following.{keeps-gates, permit-front}
 use Rattle.run_stage.specs.Stretching.{all_rows, AreRuledStretches}
 use Rattle.vidi_io.specs.Sink.{AppendsSome}
 use Rattle.vidi_recorder.specs.declared.cells.Cells.{Cells}
-use Rattle.vidi_recorder.specs.Course.{permit_before, plan_of, sizes_of, turns_under, turns_within}
+use Rattle.vidi_recorder.specs.Course.{permit_before, plan_of, sizes_of, turns_within}
 use Rattle.vidi_recorder.specs.Standing.{BreaksAt, Cut, Going, IsNextFresh, StandsAt, end_so_far, reset_bytes, rule_within, IsRestarted}
-use Rattle.vidi_recorder.proofs.Going.{Cycle, bytes_behind, end-more, fresh-last, mixed-long, put-long, reset_behind}
+use Rattle.vidi_recorder.proofs.Going.{Cycle, bytes_behind, end-more, fresh-last, mixed-long, put-long}
 use Rattle.vidi_recorder.proofs.Turning.{IsNext, next-row}
 use Rattle.vidi_recorder.proofs.Turns.{count-few, cut-next, going-next}
 

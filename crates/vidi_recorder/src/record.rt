@@ -1,6 +1,6 @@
 //! The recording.
 
-ghost use Rattle.std.specs.Prelude.{◌≡◌, ◌≤◌, ℕ, [], not, false, List, Err, Option, IfOk, IfErr, OnErr, length};
+ghost use Rattle.std.specs.Prelude.{◌≡◌, ◌≤◌, [], not, false, List, Err, Option, IfOk, IfErr, OnErr, length};
 ghost use Rattle.circular_buffer.specs.Buffer.{buffer};
 ghost use Rattle.trace_code.specs.trace_model.declared.row.Row.{Row as OneRow};
 ghost use Rattle.trace_code.specs.trace_model.Channel.{IsTable};

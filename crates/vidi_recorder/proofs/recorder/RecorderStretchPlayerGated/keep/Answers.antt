@@ -1,19 +1,17 @@
-use Rattle.std.proofs.Common.{ℕ, ◌+◌, cond, ◌<◌, ◌≤◌, ◌^◌, List, [], ◌∷◌, ◌++◌, Result, Ok, Err, IfErr, length, ap, sym, subst, ◌∙◌, arith}
+use Rattle.std.proofs.Common.{ℕ, ◌+◌, cond, ◌<◌, ◌^◌, List, [], ◌∷◌, ◌++◌, Result, Ok, Err, IfErr, length, ap, sym, subst, ◌∙◌, arith}
 use Rattle.std.specs.Global.{Vec}
 use Rattle.std.proofs.lemmas.List.{length-map}
 use Rattle.circular_buffer.specs.Buffer.{Buffer}
 use Rattle.trace_code.specs.trace_model.declared.channel.Channel.{Channel}
-use Rattle.trace_code.specs.trace_model.declared.row.Row.{Row}
 use Rattle.trace_code.specs.trace_model.Channel.{content_bytes}
 use Rattle.trace_code.specs.trace_model.Epoch.{restarts}
 use Rattle.trace_code.specs.trace_model.Recording.{has_event}
 use Rattle.trace_code.specs.trace_model.Row.{IsOver}
-use Rattle.env_script.specs.Resets.{is_due}
 use Rattle.run_stage.specs.Stretching.{all_rows}
 use Rattle.vidi_recorder.specs.Course.{plan_of}
-use Rattle.vidi_recorder.specs.Standing.{BreaksAt, Going, IsAsFar, IsNextFresh, IsRestarted, Lent, end_so_far}
+use Rattle.vidi_recorder.specs.Standing.{BreaksAt, Going, IsAsFar, IsNextFresh, Lent, end_so_far}
 use Rattle.vidi_recorder.proofs.Keeping.{breaks-back, came-now, comes-is, count-after, cut-now, end-after, ended-within, ends-now, going-more, may, may-turn, more, next-now, own}
-use Rattle.vidi_recorder.proofs.Keeping.{kept_sizes, packets-within, resets-within, row-next, some, stands-back, waits-mid, waits-now}
+use Rattle.vidi_recorder.proofs.Keeping.{kept_sizes, packets-within, row-next, some, stands-back, waits-mid, waits-now}
 use Rattle.vidi_recorder.proofs.Turning.{carries-now, given-long}
 use Rattle.vidi_recorder.proofs.Turns.{fits-now, lasting, written-len}
 use Rattle.vidi_recorder.proofs.recorder.RecorderStretchPlayerGated.keep.Goals as goal
