@@ -1,5 +1,5 @@
 -- The feed that cursors give, piece by piece.
-use Rattle.std.proofs.Common.{◌≡◌, ◌≢◌, ◌⊎◌, ℕ, ◌+◌, ◌-◌, ◌*◌, ◌^◌, ◌<◌, ◌≤◌, min, Bool, true, false, not, ◌&&◌, List, [], ◌∷◌, ◌++◌, Option, Some, None}
+use Rattle.std.proofs.Common.{◌≡◌, ◌≢◌, ◌⊎◌, ℕ, suc, ◌+◌, ◌-◌, ◌*◌, ◌^◌, ◌<◌, ◌≤◌, min, Bool, true, false, not, ◌&&◌, List, [], ◌∷◌, ◌++◌, Option, Some, None}
 use Rattle.std.proofs.Common.{length, take, get_or, set, slice_get, inl, inr, refl, sym, ap, subst, ◌∙◌, arith, ⊎_elim, replicate}
 use Rattle.std.specs.Prelude.{◌↔◌, IfSome}
 use Rattle.std.specs.Int.{bit_at}
@@ -17,25 +17,27 @@ use Rattle.trace_code.specs.trace_model.declared.packet.Packet.{Packet}
 use Rattle.trace_code.specs.trace_model.declared.trace.Trace.{Trace}
 use Rattle.trace_code.specs.trace_model.Channel.{IsChannel, IsTable}
 use Rattle.trace_code.specs.trace_model.Counting.{IsNth}
+use Rattle.trace_code.specs.trace_model.Epoch.{epoch, resets}
 use Rattle.trace_code.specs.trace_model.Packet.{content_of, count, does, widths_of, Fit, IsPacket}
 use Rattle.trace_code.specs.trace_model.Row.{all_widths, content_at, replaced}
 use Rattle.trace_code.proofs.trace_model_lemmas.ContentsLemmas.{content-fits, fit-length}
-use Rattle.trace_code.proofs.trace_model_lemmas.CountingLemmas.{nth, nth-below}
+use Rattle.trace_code.proofs.trace_model_lemmas.CountingLemmas.{count-front, nth, nth-below, nth-count, nth-within}
 use Rattle.trace_code.proofs.trace_model_lemmas.MaskLemmas.{no-bit-from-has}
 use Rattle.trace_code.proofs.trace_model_lemmas.RowLemmas.{first_of, first-more, replaced-more}
 use Rattle.trace_code.specs.declared.cursor.Cursor.{Cursor}
-use Rattle.trace_code.specs.NoReset.{HasNoReset}
+use Rattle.trace_code.specs.Counted.{counted}
 use Rattle.trace_code.specs.Stands.{Stands}
+use Rattle.trace_code.proofs.Beside as stood
 use Rattle.run_stage.proofs.chan_replayer_lemmas.FedOffers.{named-within}
 use Rattle.run_stage.proofs.run_model_lemmas.Contents.{fit-zeros, has-all}
 use Rattle.run_stage.proofs.run_model_lemmas.PinLemmas.{all-at}
 use Rattle.run_stage.specs.chan_replayer.declared.feed.Feed.{Feed}
 use Rattle.run_stage.specs.chan_replayer.Feed.{kind_of, need_of, IsFeed, IsFeedAt, IsFeedOver}
 use Rattle.replay_run.specs.declared.cursors.Cursors.{Cursors}
-use Rattle.replay_run.specs.Behind.{epoch_clock, AreBehind, IsBehind}
+use Rattle.replay_run.specs.Behind.{epoch_clock, AreBehind, IsBehind, IsNext}
+use Rattle.replay_run.specs.Epochs.{before_epoch}
 use Rattle.replay_run.specs.Feeding.{IsBeside, IsChannelFed, IsClockAt, IsFeedBut, IsSameAt}
-use Rattle.replay_run.proofs.Forward as forward
-use Rattle.replay_run.proofs.Forward.{clock-whole}
+use Rattle.replay_run.proofs.Epochs.{clock-epoch, count-append, epoch-there, front-epoch, nth-here, nth-whole}
 use Rattle.replay_run.proofs.Placing.{content-here, content-other, fit-replaced, room-at, still-below}
 
 -- ---- a content
@@ -74,83 +76,84 @@ content-whole t k j p packet contents now at ports port s many is l n =
     let whole = own-many t k j p packet s is in
     n ∙ ap (replaced contents at) (take_all port (content_of t.channels packet k.channel) (omega (arith, whole, many, l)))
 
--- ---- one event
-pub there-not : (n j : ℕ) (r : Bool) → not r ≡ false → ((r ≡ true) ↔ (n ≤ j)) → (false ≡ true) ↔ (j < n)
-there-not n j true e says = (λ f. absurd (false≢true f), λ l. absurd (let m = says.0 refl in omega (arith, l, m)))
-there-not n j false e says = absurd (false≢true (sym e))
-
-pub there-yes : (n j : ℕ) (r : Bool) → not r ≡ true → ((r ≡ true) ↔ (n ≤ j)) → (true ≡ true) ↔ (j < n)
-there-yes n j true e says = absurd (false≢true e)
-there-yes n j false e says = (
-  λ t. ⊎_elim (λ (l : j < n). l) (λ (l : n ≤ j). absurd (false≢true (says.1 l))) (cases_lt j n),
-  λ l. refl,
-)
-
--- there is none at the end
-pub none-there : (t : Trace) (k : Cursor) (j p : ℕ) (packet : Packet) (r : Bool) → not r ≡ false
-    → ((r ≡ true) ↔ (count k.kind k.channel t.packets ≤ j)) → IsNth (does k.kind k.channel) t.packets j p packet → ⊥
-none-there t k j p packet false e says is = absurd (false≢true (sym e))
-none-there t k j p packet true e says is =
-    let m = says.0 refl in let b = nth-below (does k.kind k.channel) t.packets j p packet is in omega (arith, m, b)
-
 -- ---- a channel's part of the feed
-same-count : (t : Trace) (kind : Kind) (c n : ℕ) (k : Cursor) → IsBehind t kind c n k → count k.kind k.channel t.packets ≡ count kind c t.packets
-same-count t kind c n k is = ap (λ (i : Kind). count i k.channel t.packets) is.over.0 ∙ ap (λ d. count kind d t.packets) is.over.1
+-- where the cursor stands, as it says itself: event n of its epoch, in the whole trace
+pub next-stands : (t : Trace) (e : ℕ) (kind : Kind) (c n : ℕ) (k : Cursor) → IsNext t e kind c n k
+    → Stands k t (count kind c (before_epoch e t.packets) + n)
+next-stands t e kind c n k is =
+    let l = is.there in
+    let here : min n (count kind c (epoch e t.packets)) ≡ n = omega (arith, l) in
+    subst (λ m. Stands k t (count kind c (before_epoch e t.packets) + m)) here is.behind.stands
 
--- where the cursor stands, as it says itself
-own-nth : (t : Trace) (kind : Kind) (c n p : ℕ) (k : Cursor) (packet : Packet) → IsBehind t kind c n k → IsNth (does kind c) t.packets n p packet
-    → Stands k t n × IsNth (does k.kind k.channel) t.packets n p packet
-own-nth t kind c n p k packet is at =
-    let l = nth-below (does kind c) t.packets n p packet at in
-    let here : min n (count kind c t.packets) ≡ n = omega (arith, l) in (
-      subst (Stands k t) here is.stands,
-      subst (λ (i : Kind). IsNth (does i k.channel) t.packets n p packet) (sym is.over.0)
-          (subst (λ d. IsNth (does kind d) t.packets n p packet) (sym is.over.1) at),
-    )
+own-nth : (t : Trace) (e : ℕ) (kind : Kind) (c n p : ℕ) (k : Cursor) (packet : Packet) → IsNext t e kind c n k
+    → IsNth (does kind c) (epoch e t.packets) n p packet
+    → IsNth (does k.kind k.channel) t.packets (count kind c (before_epoch e t.packets) + n) (length (before_epoch e t.packets) + p) packet
+own-nth t e kind c n p k packet is at =
+    let j = count kind c (before_epoch e t.packets) + n in
+    let q = length (before_epoch e t.packets) + p in
+    subst (λ (i : Kind). IsNth (does i k.channel) t.packets j q packet) (sym is.behind.over.0)
+    (subst (λ d. IsNth (does kind d) t.packets j q packet) (sym is.behind.over.1) (nth-whole kind c e t.packets n p packet at))
 
--- whether there is a next event
-there-is : (t : Trace) (kind : Kind) (c n : ℕ) (k : Cursor) (r : Bool) → IsBehind t kind c n k
-    → ((j : ℕ) → Stands k t j → (r ≡ true) ↔ (j < count k.kind k.channel t.packets)) → (r ≡ true) ↔ (n < count kind c t.packets)
-there-is t kind c n k r is says =
-    let s = says (min n (count kind c t.packets)) is.stands in
-    let same = same-count t kind c n k is in (
-      λ e. (let l = s.0 e in omega (arith, l, same)),
-      λ (l : n < count kind c t.packets). s.1 (omega (arith, l, same)),
-    )
+-- it isn't at the end
+pub next-within : (t : Trace) (e : ℕ) (kind : Kind) (c n : ℕ) (k : Cursor) → IsNext t e kind c n k
+    → count kind c (before_epoch e t.packets) + n < count k.kind k.channel t.packets
+next-within t e kind c n k is =
+    let found = nth (does kind c) (epoch e t.packets) n is.there in
+    nth-below (does k.kind k.channel) t.packets (count kind c (before_epoch e t.packets) + n) (length (before_epoch e t.packets) + found.place) found.item
+    (own-nth t e kind c n found.place k found.item is found.is)
 
-module _ (channels : List Channel) (t : Trace) (kind : Kind) (c n : ℕ) (k : Cursor) (new : Feed) (r : Bool) (same : t.channels ≡ channels)
-    (is : IsBehind t kind c n k) (more : has new.more c ≡ r)
-    (there : (j : ℕ) → Stands k t j → (r ≡ true) ↔ (j < count k.kind k.channel t.packets))
+module _ (channels : List Channel) (t : Trace) (e : ℕ) (kind : Kind) (c n : ℕ) (k : Cursor) (new : Feed)
+    (is : IsNext t e kind c n k) (more : has new.more c ≡ true)
     (need : (j p : ℕ) (packet : Packet) → Stands k t j → IsNth (does k.kind k.channel) t.packets j p packet
     → (d : ℕ) → d < length channels → need_of (length channels) new c d ≡ epoch_clock t.packets p d) where
-  pub fed-at : ((p : ℕ) (packet : Packet) → IsNth (does kind c) t.packets n p packet → kind ≡ Start
-      → content_at channels new.contents c ≡ content_of channels packet c) → IsFeedAt channels t.packets kind c n new
+  pub fed-at : ((p : ℕ) (packet : Packet) → IsNth (does kind c) (epoch e t.packets) n p packet → kind ≡ Start
+      → content_at channels new.contents c ≡ content_of channels packet c) → IsFeedAt channels (epoch e t.packets) kind c n new
   fed-at content = record {
-    more = (let s = there-is t kind c n k r is there in (λ e. s.0 (sym more ∙ e), λ l. more ∙ s.1 l));
-    need = λ p packet at d l. (let o = own-nth t kind c n p k packet is at in need n p packet o.0 o.1 d l ∙ clock-whole t.packets p d is.no_reset);
+    more = (λ e. is.there, λ l. more);
+    need = λ p packet at d l.
+        need (count kind c (before_epoch e t.packets) + n) (length (before_epoch e t.packets) + p) packet (next-stands t e kind c n k is)
+        (own-nth t e kind c n p k packet is at) d l
+        ∙ clock-epoch e t.packets p d (epoch-there kind c e n t.packets is.there)
+        (let w = nth-within (does kind c) (epoch e t.packets) n p packet at in omega (arith, w));
     content = content;
   }
 
-pub fed-end : (channels : List Channel) (t : Trace) (c n : ℕ) (k : Cursor) (new : Feed) (r : Bool) → t.channels ≡ channels
-    → IsBehind t End c n k → has new.more c ≡ r
-    → ((j : ℕ) → Stands k t j → (r ≡ true) ↔ (j < count k.kind k.channel t.packets))
+pub fed-end : (channels : List Channel) (t : Trace) (e c n : ℕ) (k : Cursor) (new : Feed)
+    → IsNext t e End c n k → has new.more c ≡ true
     → ((j p : ℕ) (packet : Packet) → Stands k t j → IsNth (does k.kind k.channel) t.packets j p packet
-    → (d : ℕ) → d < length channels → need_of (length channels) new c d ≡ epoch_clock t.packets p d) → IsFeedAt channels t.packets End c n new
-fed-end channels t c n k new r same is more there need =
-    fed-at channels t End c n k new r same is more there need (λ p packet at e. absurd (End≢Start e))
+    → (d : ℕ) → d < length channels → need_of (length channels) new c d ≡ epoch_clock t.packets p d)
+    → IsFeedAt channels (epoch e t.packets) End c n new
+fed-end channels t e c n k new is more need = fed-at channels t e End c n k new is more need (λ p packet at same. absurd (End≢Start same))
   where
     End≢Start : End ≡ Start → ⊥
     End≢Start e = cc
 
--- where there is no start
-pub fed-none : (channels : List Channel) (t : Trace) (c n : ℕ) (k : Cursor) (new : Feed) (r : Bool) → t.channels ≡ channels
-    → IsBehind t Start c n k → has new.more c ≡ r → r ≡ false
-    → ((j : ℕ) → Stands k t j → (r ≡ true) ↔ (j < count k.kind k.channel t.packets))
-    → ((j p : ℕ) (packet : Packet) → Stands k t j → IsNth (does k.kind k.channel) t.packets j p packet
-    → (d : ℕ) → d < length channels → need_of (length channels) new c d ≡ epoch_clock t.packets p d) → IsFeedAt channels t.packets Start c n new
-fed-none channels t c n k new r same is more down there need =
-    fed-at channels t Start c n k new r same is more there need (λ p packet at e.
-    absurd (false≢true (sym down ∙ (there-is t Start c n k r is there).1 (nth-below (does Start c) t.packets n p packet at))))
+-- where there is no event, and the mask says so
+pub fed-none : (channels : List Channel) (packets : List Packet) (kind : Kind) (c n mask : ℕ) (old : Feed) (r : Bool) → has mask c ≡ false → r ≡ false
+    → ((r ≡ true) ↔ (n < count kind c packets))
+    → IsFeedAt channels packets kind c n (record { more = mask; needs = old.needs; contents = old.contents })
+fed-none channels packets kind c n mask old r down f says = record {
+  more = (λ up. absurd (false≢true (sym down ∙ up)), λ l. absurd (none l));
+  need = λ p packet at d l. absurd (none (nth-below (does kind c) packets n p packet at));
+  content = λ p packet at e. absurd (none (nth-below (does kind c) packets n p packet at));
+}
+  where
+    none : n < count kind c packets → ⊥
+    none l = false≢true (sym f ∙ says.1 l)
+
+pub next-of : (t : Trace) (e : ℕ) (kind other : Kind) (c n : ℕ) (k : Cursor) (r : Bool) → IsBehind t e kind c n k
+    → ((r ≡ true) ↔ (n < count kind c (epoch e t.packets))) → r ≡ true → kind ≡ other → IsNext t e other c n k
+next-of t e kind other c n k r is says up same =
+    subst (λ (i : Kind). IsNext t e i c n k) same (record { behind = is; there = says.0 up })
+
+-- a channel alone is said to have none
+pub unfed-over : (channels : List Channel) (c mask : ℕ) (old : Feed) → c < length channels → ((d : ℕ) → d ≢ c → has mask d ≡ has old.more d)
+    → IsFeedOver channels old → IsFeedOver channels (record { more = mask; needs = old.needs; contents = old.contents })
+unfed-over channels c mask old l others over = record {
+  more = still-below old.more mask c (length channels) l over.more others;
+  needs = over.needs;
+  contents = over.contents;
+}
 
 -- what was written of a channel's content
 pub record IsWrittenAt (channels : List Channel) (c at : ℕ) (old new : List ℕ) : Type 0 where
@@ -166,42 +169,44 @@ Writes k ports at old new = (t : Trace) (j p : ℕ) (packet : Packet) → Stands
     → ports ≡ length (widths_of (slice_get t.channels k.channel)) → IsNth (does Start k.channel) t.packets j p packet
     → new ≡ replaced old at (content_of t.channels packet k.channel)
 
-own-place : (channels : List Channel) (t : Trace) (c n : ℕ) (k : Cursor) (x : Channel) → t.channels ≡ channels → IsBehind t Start c n k
+own-place : (channels : List Channel) (t : Trace) (e c n : ℕ) (k : Cursor) (x : Channel) → t.channels ≡ channels → IsNext t e Start c n k
     → slice_get channels c ≡ Some x → slice_get t.channels k.channel ≡ Some x
-own-place channels t c n k x same is x-there =
-    ap (λ (cs : List Channel). slice_get cs k.channel) same ∙ ap (slice_get channels) is.over.1 ∙ x-there
+own-place channels t e c n k x same is x-there =
+    ap (λ (cs : List Channel). slice_get cs k.channel) same ∙ ap (slice_get channels) is.behind.over.1 ∙ x-there
 
-pub own-ports : (channels : List Channel) (t : Trace) (c n ports : ℕ) (k : Cursor) (x : Channel) → t.channels ≡ channels
-    → IsBehind t Start c n k → slice_get channels c ≡ Some x → ports ≡ length x.widths
+pub own-ports : (channels : List Channel) (t : Trace) (e c n ports : ℕ) (k : Cursor) (x : Channel) → t.channels ≡ channels
+    → IsNext t e Start c n k → slice_get channels c ≡ Some x → ports ≡ length x.widths
     → ports ≡ length (widths_of (slice_get t.channels k.channel))
-own-ports channels t c n ports k x same is x-there ports-are =
-    ports-are ∙ sym (ap (λ (o : Option Channel). length (widths_of o)) (own-place channels t c n k x same is x-there))
+own-ports channels t e c n ports k x same is x-there ports-are =
+    ports-are ∙ sym (ap (λ (o : Option Channel). length (widths_of o)) (own-place channels t e c n k x same is x-there))
 
-module _ (channels : List Channel) (t : Trace) (c n at ports : ℕ) (k : Cursor) (x : Channel) (old new : List ℕ) (same : t.channels ≡ channels)
-    (is : IsBehind t Start c n k) (x-there : slice_get channels c ≡ Some x) (ports-are : ports ≡ length x.widths)
+module _ (channels : List Channel) (t : Trace) (e c n at ports : ℕ) (k : Cursor) (x : Channel) (old new : List ℕ) (same : t.channels ≡ channels)
+    (is : IsNext t e Start c n k) (x-there : slice_get channels c ≡ Some x) (ports-are : ports ≡ length x.widths)
     (writes : Writes k ports at old new) where
-  written-as : (p : ℕ) (packet : Packet) → IsNth (does Start c) t.packets n p packet
+  written-as : (p : ℕ) (packet : Packet) → IsNth (does Start c) (epoch e t.packets) n p packet
       → (Fit x.widths (content_of channels packet c)) × (new ≡ replaced old at (content_of channels packet c))
   written-as p packet nth-is =
-      let o = own-nth t Start c n p k packet is nth-is in
-      let starts : IsNth (does Start k.channel) t.packets n p packet =
-      subst (λ (i : Kind). IsNth (does i k.channel) t.packets n p packet) is.over.0 o.1 in
+      let j = count Start c (before_epoch e t.packets) + n in
+      let q = length (before_epoch e t.packets) + p in
+      let st = next-stands t e Start c n k is in
+      let starts : IsNth (does Start k.channel) t.packets j q packet =
+      subst (λ (i : Kind). IsNth (does i k.channel) t.packets j q packet) is.behind.over.0 (own-nth t e Start c n p k packet is nth-is) in
       let content : content_of t.channels packet k.channel ≡ content_of channels packet c =
-      ap (λ (cs : List Channel). content_of cs packet k.channel) same ∙ ap (content_of channels packet) is.over.1 in
-      let own : o.0.1.channel ≡ x = same_Some o.0.1.channel x (sym o.0.1.at ∙ own-place channels t c n k x same is x-there) in (
+      ap (λ (cs : List Channel). content_of cs packet k.channel) same ∙ ap (content_of channels packet) is.behind.over.1 in
+      let own : st.1.channel ≡ x = same_Some st.1.channel x (sym st.1.at ∙ own-place channels t e c n k x same is x-there) in (
         subst (Fit x.widths) content
-            (subst (λ (y : Channel). Fit y.widths (content_of t.channels packet k.channel)) own (own-fits t k n p packet o.0 starts)),
-        writes t n p packet o.0 (own-ports channels t c n ports k x same is x-there ports-are) starts ∙ ap (replaced old at) content,
+            (subst (λ (y : Channel). Fit y.widths (content_of t.channels packet k.channel)) own (own-fits t k j q packet st starts)),
+        writes t j q packet st (own-ports channels t e c n ports k x same is x-there ports-are) starts ∙ ap (replaced old at) content,
       )
 
-  pub written-at : n < count Start c t.packets → IsWrittenAt channels c at old new
-  written-at l =
-      let found = nth (does Start c) t.packets n l in
+  pub written-at : IsWrittenAt channels c at old new
+  written-at =
+      let found = nth (does Start c) (epoch e t.packets) n is.there in
       let w = written-as found.place found.item found.is in
       record { channel = x; there = x-there; numbers = content_of channels found.item c; fit = w.0; new_is = w.1 }
 
   pub content-fed : length old ≡ length (all_widths channels) → at ≡ first_of channels c → (p : ℕ) (packet : Packet)
-      → IsNth (does Start c) t.packets n p packet → content_at channels new c ≡ content_of channels packet c
+      → IsNth (does Start c) (epoch e t.packets) n p packet → content_at channels new c ≡ content_of channels packet c
   content-fed long place p packet nth-is =
       let w = written-as p packet nth-is in
       ap (λ xs. content_at channels xs c) w.1
@@ -221,9 +226,8 @@ written-over channels c at old new fit place w =
 
 -- ---- one channel
 -- `feed_event` says so, of n channels; its clock is right for the traces of which `right` holds
-pub record IsEventFed (right : Trace → Type 0) (k : Cursor) (n c : ℕ) (r : Bool) (old new : Feed) : Type 0 where
-  pub more : has new.more c ≡ r
-  pub there : (t : Trace) (j : ℕ) → Stands k t j → (r ≡ true) ↔ (j < count k.kind k.channel t.packets)
+pub record IsEventFed (right : Trace → Type 0) (k : Cursor) (n c : ℕ) (old new : Feed) : Type 0 where
+  pub more : has new.more c ≡ true
   pub need : (t : Trace) (j p : ℕ) (packet : Packet) → right t → Stands k t j → n ≡ length t.channels → IsNth (does k.kind k.channel) t.packets j p packet
       → (d : ℕ) → d < n → need_of n new c d ≡ epoch_clock t.packets p d
   pub other_more : (d : ℕ) → d ≢ c → has new.more d ≡ has old.more d
@@ -231,10 +235,10 @@ pub record IsEventFed (right : Trace → Type 0) (k : Cursor) (n c : ℕ) (r : B
   pub needs : length new.needs ≡ n * n
   pub contents : new.contents ≡ old.contents
 
-module _ (right : Trace → Type 0) (channels : List Channel) (k : Cursor) (n c : ℕ) (r : Bool) (old mid : Feed) (many : n ≡ length channels)
-    (fed : IsEventFed right k n c r old mid) where
-  own : IsEventFed right k (length channels) c r old mid
-  own = subst (λ m. IsEventFed right k m c r old mid) many fed
+module _ (right : Trace → Type 0) (channels : List Channel) (k : Cursor) (n c : ℕ) (old mid : Feed) (many : n ≡ length channels)
+    (fed : IsEventFed right k n c old mid) where
+  own : IsEventFed right k (length channels) c old mid
+  own = subst (λ m. IsEventFed right k m c old mid) many fed
 
   pub event-others : (d : ℕ) → d ≢ c → IsSameAt channels d old mid
   event-others d ne = record {
@@ -254,52 +258,45 @@ module _ (right : Trace → Type 0) (channels : List Channel) (k : Cursor) (n c 
       → (d : ℕ) → d < length channels → need_of (length channels) mid c d ≡ epoch_clock t.packets p d
   need-fed t is-right same j p packet st nth-is d l = own.need t j p packet is-right st (sym (ap length same)) nth-is d l
 
-  pub end-here : (t : Trace) (i : ℕ) → right t → IsBehind t End c i k → t.channels ≡ channels → IsFeedAt channels t.packets End c i mid
-  end-here t i is-right is same = fed-end channels t c i k mid r same is own.more (own.there t) (need-fed t is-right same)
-
-  pub none-here : (t : Trace) (i : ℕ) → r ≡ false → right t → IsBehind t Start c i k → t.channels ≡ channels
-      → IsFeedAt channels t.packets Start c i mid
-  none-here t i down is-right is same = fed-none channels t c i k mid r same is own.more down (own.there t) (need-fed t is-right same)
+  pub end-here : (t : Trace) (e i : ℕ) → right t → IsNext t e End c i k → t.channels ≡ channels → IsFeedAt channels (epoch e t.packets) End c i mid
+  end-here t e i is-right is same = fed-end channels t e c i k mid is own.more (need-fed t is-right same)
 
   -- there is a start, whose content is written from place `at` on
-  module _ (at ports : ℕ) (x : Channel) (new : Feed) (over : IsFeedOver channels old) (up : r ≡ true) (place : at ≡ first_of channels c)
+  module _ (at ports : ℕ) (x : Channel) (new : Feed) (over : IsFeedOver channels old) (place : at ≡ first_of channels c)
       (x-there : slice_get channels c ≡ Some x) (ports-are : ports ≡ length x.widths) (more-same : new.more ≡ mid.more)
       (needs-same : new.needs ≡ mid.needs) (writes : Writes k ports at mid.contents new.contents) where
     long : length mid.contents ≡ length (all_widths channels)
     long = ap length own.contents ∙ sym (fit-length (all_widths channels) old.contents over.contents)
 
-    pub start-place : (t : Trace) (i : ℕ) → IsBehind t Start c i k → t.channels ≡ channels → i < count Start c t.packets
-    start-place t i is same = (there-is t Start c i k r is (own.there t)).0 up
-
     -- what was written, as a trace tells for which the cursor stands
-    content-written : (t : Trace) (i : ℕ) → IsBehind t Start c i k → t.channels ≡ channels → IsWrittenAt channels c at mid.contents new.contents
-    content-written t i is same =
-        written-at channels t c i at ports k x mid.contents new.contents same is x-there ports-are writes (start-place t i is same)
+    content-written : (t : Trace) (e i : ℕ) → IsNext t e Start c i k → t.channels ≡ channels → IsWrittenAt channels c at mid.contents new.contents
+    content-written t e i is same = written-at channels t e c i at ports k x mid.contents new.contents same is x-there ports-are writes
 
-    pub start-over : (t : Trace) (i : ℕ) → IsBehind t Start c i k → t.channels ≡ channels → IsFeedOver channels new
-    start-over t i is same =
+    pub start-over : (t : Trace) (e i : ℕ) → IsNext t e Start c i k → t.channels ≡ channels → IsFeedOver channels new
+    start-over t e i is same =
         let was = event-over (slice_get_within channels c x x-there) over in
         record {
           more = subst (λ m. m < 2 ^ length channels) (sym more-same) was.more;
           needs = ap length needs-same ∙ was.needs;
-          contents = written-over channels c at mid.contents new.contents was.contents place (content-written t i is same);
+          contents = written-over channels c at mid.contents new.contents was.contents place (content-written t e i is same);
         }
 
-    pub start-others : (t : Trace) (i : ℕ) → IsBehind t Start c i k → t.channels ≡ channels → (d : ℕ) → d ≢ c → IsSameAt channels d old new
-    start-others t i is same d ne =
+    pub start-others : (t : Trace) (e i : ℕ) → IsNext t e Start c i k → t.channels ≡ channels → (d : ℕ) → d ≢ c → IsSameAt channels d old new
+    start-others t e i is same d ne =
         let was = event-others d ne in
         record {
           more = ap (λ m. has m d) more-same ∙ was.more;
           need = λ e l. ap (λ xs. get_or xs (length channels * d + e) 0) needs-same ∙ was.need e l;
-          content = written-other channels c at d mid.contents new.contents long place (content-written t i is same) ne ∙ was.content;
+          content = written-other channels c at d mid.contents new.contents long place (content-written t e i is same) ne ∙ was.content;
         }
 
-    pub start-here : (t : Trace) (i : ℕ) → right t → IsBehind t Start c i k → t.channels ≡ channels → IsFeedAt channels t.packets Start c i new
-    start-here t i is-right is same =
-        fed-at channels t Start c i k new r same is (ap (λ m. has m c) more-same ∙ own.more) (own.there t)
+    pub start-here : (t : Trace) (e i : ℕ) → right t → IsNext t e Start c i k → t.channels ≡ channels
+        → IsFeedAt channels (epoch e t.packets) Start c i new
+    start-here t e i is-right is same =
+        fed-at channels t e Start c i k new is (ap (λ m. has m c) more-same ∙ own.more)
         (λ j p packet st nth-is d l. ap (λ xs. get_or xs (length channels * c + d) 0) needs-same ∙ need-fed t is-right same j p packet st nth-is d l)
-        (λ p packet nth-is e.
-        content-fed channels t c i at ports k x mid.contents new.contents same is x-there ports-are writes long place p packet nth-is)
+        (λ p packet nth-is start.
+        content-fed channels t e c i at ports k x mid.contents new.contents same is x-there ports-are writes long place p packet nth-is)
 
 -- there is room for a start's content
 pub start-room : (channels : List Channel) (c at ports : ℕ) (x : Channel) (old contents : List ℕ) → Fit (all_widths channels) old
@@ -337,30 +334,68 @@ pub no-reset : (dir : Dir) → kind_of dir ≢ Reset
 no-reset Inward e = cc
 no-reset Outward e = cc
 
-pub beside-is : (t : Trace) (have : ℕ → ℕ) (b : ℕ) (kind : Kind) (x : Channel) (k o : Cursor) → slice_get t.channels b ≡ Some x → kind ≡ kind_of x.dir
-    → IsBehind t kind b (have b) o
+-- of an epoch's packet the cursor's event is one of the epoch
+own-below : (t : Trace) (e : ℕ) (kind : Kind) (c n p : ℕ) (packet : Packet)
+    → IsNth (does kind c) t.packets (count kind c (before_epoch e t.packets) + n) (length (before_epoch e t.packets) + p) packet
+    → p < length (epoch e t.packets) → n < count kind c (epoch e t.packets)
+own-below t e kind c n p packet is l =
+    let bef = before_epoch e t.packets in
+    let a = nth-count (does kind c) t.packets (count kind c bef + n) (length bef + p) packet is in
+    let on : length bef + suc p ≡ suc (length bef + p) = omega arith in
+    let f = ap (λ i. count kind c (take i t.packets)) (sym on) ∙ ap (count kind c) (front-epoch e t.packets (suc p) (omega (arith, l)))
+    ∙ count-append (does kind c) bef (take (suc p) (epoch e t.packets)) in
+    let m = count-front (does kind c) (epoch e t.packets) (suc p) in
+    omega (arith, a, f, m)
+
+pub beside-is : (t : Trace) (e : ℕ) (have : ℕ → ℕ) (b : ℕ) (kind : Kind) (x : Channel) (k o : Cursor) → slice_get t.channels b ≡ Some x
+    → kind ≡ kind_of x.dir → IsBehind t e kind b (have b) o
     → ((i j p : ℕ) (packet : Packet) → Stands k t i → Stands o t j → IsNth (does k.kind k.channel) t.packets i p packet
     → IsNth (does o.kind o.channel) t.packets j p packet)
-    → IsBeside t have k b
-beside-is t have b kind x k o there e is says y at i p packet st nth-is =
-    let too = says i (min (have b) (count kind b t.packets)) p packet st is.stands nth-is in
-    let own : IsNth (does kind b) t.packets (min (have b) (count kind b t.packets)) p packet =
-    subst (λ (a : Kind). IsNth (does a b) t.packets (min (have b) (count kind b t.packets)) p packet) is.over.0
-    (subst (λ a. IsNth (does o.kind a) t.packets (min (have b) (count kind b t.packets)) p packet) is.over.1 too) in
-    let here = nth-below (does kind b) t.packets (min (have b) (count kind b t.packets)) p packet own in
-    let n : min (have b) (count kind b t.packets) ≡ have b = omega (arith, here) in
+    → IsBeside t e have k b
+beside-is t e have b kind x k o there kind-is is says y at i p packet st nth-is within =
+    let bef = before_epoch e t.packets in
+    let m = min (have b) (count kind b (epoch e t.packets)) in
+    let too = says i (count kind b bef + m) (length bef + p) packet st is.stands nth-is in
+    let own : IsNth (does kind b) t.packets (count kind b bef + m) (length bef + p) packet =
+    subst (λ (a : Kind). IsNth (does a b) t.packets (count kind b bef + m) (length bef + p) packet) is.over.0
+    (subst (λ a. IsNth (does o.kind a) t.packets (count kind b bef + m) (length bef + p) packet) is.over.1 too) in
+    let l = own-below t e kind b m p packet own within in
+    let n : m ≡ have b = omega (arith, l) in
+    let here = nth-here kind b e t.packets m (length bef + p) packet own l in
+    let w = here.at in
+    let p-is : here.place ≡ p = omega (arith, w) in
     let same : x ≡ y = same_Some x y (sym there ∙ at) in
-    subst (λ (a : Kind). IsNth (does a b) t.packets (have b) p packet) (e ∙ ap (λ (z : Channel). kind_of z.dir) same)
-    (subst (λ a. IsNth (does kind b) t.packets a p packet) n own)
+    subst (λ (a : Kind). IsNth (does a b) (epoch e t.packets) (have b) p packet) (kind-is ∙ ap (λ (z : Channel). kind_of z.dir) same)
+    (subst (λ a. IsNth (does kind b) (epoch e t.packets) a p packet) n
+    (subst (λ q. IsNth (does kind b) (epoch e t.packets) m q packet) p-is here.is))
+
+-- wherever it is said to stand, it stands at its event
+one-stand : (t : Trace) (k : Cursor) (i j p : ℕ) (packet : Packet) → Stands k t i → Stands k t j → IsNth (does k.kind k.channel) t.packets i p packet
+    → IsNth (does k.kind k.channel) t.packets j p packet
+one-stand t k i j p packet st too is = stood.beside t k.kind k.kind k.channel k.channel i j k.head.sizes.items k.rest.now (counted k.clock)
+    k.head.sizes.items k.rest.now (counted k.clock) st.0 too.0 p packet is refl
 
 -- its clock is that of the event at which the cursor stands
-pub clock-beside : (channels : List Channel) (t : Trace) (have : ℕ → ℕ) (b : ℕ) (feed : Feed) (k : Cursor) → t.channels ≡ channels
-    → b < length channels → HasNoReset t.packets → IsBeside t have k b → IsChannelFed channels t.packets have b feed
-    → IsClockAt t k (length channels) feed.needs b
-clock-beside channels t have b feed k same l none is fed j p packet st nth-is d m = ⊎_elim
+pub clock-beside : (channels : List Channel) (t : Trace) (e : ℕ) (have : ℕ → ℕ) (kind : Kind) (c n b : ℕ) (feed : Feed) (k : Cursor)
+    → t.channels ≡ channels → b < length channels → IsNext t e kind c n k → IsBeside t e have k b
+    → IsChannelFed channels (epoch e t.packets) have b feed → IsClockAt t k (length channels) feed.needs b
+clock-beside channels t e have kind c n b feed k same l next is fed j p packet st nth-is d m =
+    let bef = before_epoch e t.packets in
+    let i = count kind c bef + n in
+    let own : IsNth (does k.kind k.channel) t.packets i p packet = one-stand t k j i p packet st (next-stands t e kind c n k next) nth-is in
+    let plain : IsNth (does kind c) t.packets i p packet =
+    subst (λ (a : Kind). IsNth (does a c) t.packets i p packet) next.behind.over.0
+    (subst (λ a. IsNth (does k.kind a) t.packets i p packet) next.behind.over.1 own) in
+    let here = nth-here kind c e t.packets n p packet plain next.there in
+    let w = here.within in
+    let moved : IsNth (does k.kind k.channel) t.packets j (length bef + here.place) packet =
+    subst (λ q. IsNth (does k.kind k.channel) t.packets j q packet) here.at nth-is in
+    ⊎_elim
     (λ (h : (x : Channel) × (b < length channels) × (slice_get channels b ≡ Some x) × (get_or channels b x ≡ x)).
-    (fed h.0 h.2).need p packet (is h.0 (ap (λ (cs : List Channel). slice_get cs b) same ∙ h.2) j p packet st nth-is) d m
-    ∙ sym (clock-whole t.packets p d none))
+    (fed h.0 h.2).need here.place packet
+    (is h.0 (ap (λ (cs : List Channel). slice_get cs b) same ∙ h.2) j here.place packet st moved here.within) d m
+    ∙ sym (clock-epoch e t.packets here.place d (epoch-there kind c e n t.packets next.there) (omega (arith, w)))
+    ∙ ap (λ q. epoch_clock t.packets q d) (sym here.at))
     (λ (h : (length channels ≤ b) × (slice_get channels b ≡ None)). absurd (let past = h.0 in omega (arith, past, l)))
     (slice_get_cases channels b).1
 
@@ -448,14 +483,13 @@ pub beside-there : (more left fed n : ℕ) (o : Option ℕ) → more < 2 ^ n →
 beside-there more left fed n None small each is = tt
 beside-there more left fed n (Some b) small each is = named-within more n b small (within-without (has more b) (has left b) (has fed b) (each b) is)
 
-pub clocks-beside : (channels : List Channel) (t : Trace) (have : ℕ → ℕ) (more left fed : ℕ) (feed : Feed) (cursors : Cursors) (k : Cursor) (o : Option ℕ)
-    → t.channels ≡ channels → more < 2 ^ length channels → ((c : ℕ) → has fed c ≡ (has more c && not (has left c)))
-    → IsFeedBut left channels t.packets have feed → IfSome o (λ b. has fed b ≡ true)
-    → IfSome o (λ b. (u : Trace) (h : ℕ → ℕ) → AreBehind u h cursors → u.channels ≡ channels → IsBeside u h k b) → AreBehind t have cursors → IfSome o (IsClockAt t k (length channels) feed.needs)
-clocks-beside channels t have more left fed feed cursors k None same small each but is beside are = tt
-clocks-beside channels t have more left fed feed cursors k (Some b) same small each but is beside are =
+pub clocks-beside : (channels : List Channel) (t : Trace) (have : ℕ → ℕ) (more left fed : ℕ) (feed : Feed) (cursors : Cursors) (kind : Kind) (c n : ℕ)
+    (k : Cursor) (o : Option ℕ) → t.channels ≡ channels → more < 2 ^ length channels → ((c : ℕ) → has fed c ≡ (has more c && not (has left c)))
+    → IsFeedBut left channels (epoch cursors.epoch t.packets) have feed → IfSome o (λ b. has fed b ≡ true)
+    → IfSome o (λ b. (u : Trace) (h : ℕ → ℕ) → AreBehind u h cursors → u.channels ≡ channels → IsBeside u cursors.epoch h k b)
+    → AreBehind t have cursors → IsNext t cursors.epoch kind c n k → IfSome o (IsClockAt t k (length channels) feed.needs)
+clocks-beside channels t have more left fed feed cursors kind c n k None same small each but is beside are next = tt
+clocks-beside channels t have more left fed feed cursors kind c n k (Some b) same small each but is beside are next =
     let within = named-within more (length channels) b small (within-without (has more b) (has left b) (has fed b) (each b) is) in
-    let behind = forward.there-is t Start have cursors.starts.cursors.items cursors.starts.more b are.starts
-    (subst (λ (cs : List Channel). b < length cs) (sym same) within) in
-    clock-beside channels t have b feed k same within behind.1.no_reset (beside t have are same)
+    clock-beside channels t cursors.epoch have kind c n b feed k same within next (beside t have are same)
     (but b (not-without (has more b) (has left b) (has fed b) (each b) is))

@@ -1,11 +1,12 @@
 -- What a replay answers: *the replay*, how it ends, and the encoding of its trace.
-use Rattle.std.specs.Prelude.{◌≡◌, ℕ, ◌≤◌, ◌⊎◌, nat_lt, List, Some, All, Contains, length, slice_get}
+use Rattle.std.specs.Prelude.{◌≡◌, ℕ, ◌≤◌, ◌⊎◌, nat_lt, List, Some, All, Contains, length, slice_get, take}
 use Rattle.trace_code.specs.trace_model.declared.channel.Channel.{Channel}
+use Rattle.trace_code.specs.trace_model.declared.channel.Dir.TheVariants.{Inward}
 use Rattle.trace_code.specs.trace_model.declared.event.Event.{Event}
 use Rattle.trace_code.specs.trace_model.declared.packet.Packet.{Packet}
 use Rattle.trace_code.specs.trace_model.declared.row.Row.{Row}
 use Rattle.trace_code.specs.trace_model.Epoch.{epoch, resets}
-use Rattle.trace_code.specs.trace_model.Recording.{packets_of, trace_of}
+use Rattle.trace_code.specs.trace_model.Recording.{packets_of, recorded, trace_of}
 use Rattle.trace_code.specs.Encoding.{Encodes}
 use Rattle.net_design.specs.declared.design.Design.{Design}
 use Rattle.net_design.specs.declared.values.Values.{Values}
@@ -62,6 +63,11 @@ pub record AreInOrderOf (channels : List Channel) (packets : List Packet) (stret
   pub each : (k : ℕ) (rows : List Row) → slice_get stretches k ≡ Some rows
       → AreInOrder channels (epoch k packets) (packets_of channels rows)
 
+-- the contents that are recorded of each inward channel, over all epochs, are a prefix of those of the trace
+abbrev pub ArePrefixes : List Channel → List Packet → List Packet → Type 0
+ArePrefixes channels packets out = (c : ℕ) (x : Channel) → slice_get channels c ≡ Some x → x.dir ≡ Inward
+    → recorded channels out c ≡ take (length (recorded channels out c)) (recorded channels packets c)
+
 -- what is answered, where the shell runs as said afterwards
 pub record IsReplayed (d : Design) (m : Map) (packets : List Packet) (n : ℕ) (runs : Design → Values → List Row → Type 0)
     (answer : Replayed) : Type 0 where
@@ -75,5 +81,6 @@ pub record IsReplayed (d : Design) (m : Map) (packets : List Packet) (n : ℕ) (
   pub stands : runs d (driven.state (length here)) here
   -- *order in the output*, *contents stay* in each stretch, and *no circle*
   pub order : AreInOrderOf m.channels packets (and_stretch past here)
+  pub prefixes : ArePrefixes m.channels packets (trace_of m.channels (all_rows past here)).packets
   pub contents : All (ContentsStay m.channels) (and_stretch past here)
   pub free : GoesInNoCircle m.channels packets past here answer.outcome

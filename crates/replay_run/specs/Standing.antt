@@ -1,5 +1,5 @@
 -- Where a replay stands between two cycles, and how it ends.
-use Rattle.std.specs.Prelude.{◌≡◌, ℕ, ◌-◌, ◌<◌, ◌≤◌, ◌↔◌, not, Bool, true, List, length, slice_get, slice_index}
+use Rattle.std.specs.Prelude.{◌≡◌, ℕ, ◌-◌, ◌<◌, ◌≤◌, ◌↔◌, not, Bool, true, List, Some, length, slice_get, slice_index}
 use Rattle.trace_code.specs.vidi_bits.Number.{has}
 use Rattle.trace_code.specs.trace_model.declared.channel.Channel.{Channel}
 use Rattle.trace_code.specs.trace_model.declared.channel.Dir.TheVariants.{Inward}

@@ -1,6 +1,6 @@
 //! The player of a replay.
 
-ghost use Rattle.std.specs.Prelude.{◌≡◌, ◌↔◌, ◌+◌, ◌<◌, ◌≤◌, [], ℕ, true, IfOk, Some, length, replicate, slice_get};
+ghost use Rattle.std.specs.Prelude.{◌≡◌, ◌↔◌, ◌+◌, ◌<◌, ◌≤◌, [], ℕ, true, IfOk, IsTrue, Some, length, replicate, slice_get};
 ghost use Rattle.trace_code.specs.vidi_bits.Number.{has};
 ghost use Rattle.trace_code.specs.trace_model.declared.channel.Channel.{Channel as OneChannel};
 ghost use Rattle.trace_code.specs.trace_model.declared.packet.TheConstants.{MOST_CYCLES};
@@ -40,6 +40,16 @@ pub(crate) struct Feeder<'a> {
     pub(crate) cycles: u32,
 }
 
+/// Whether a channel of this direction goes into the design.
+fn is_inward(dir: Dir) -> bool
+    ensures { IsTrue result ↔ (dir ≡ Dir.Inward) }
+{
+    match dir {
+        Dir::Inward => true,
+        Dir::Outward => false,
+    }
+}
+
 /// The inward ones of so few channels: bit c is channel c.
 fn inward_of(channels: &[Channel]) -> u128
     requires few { length channels.now ≤ 128 }
@@ -47,7 +57,7 @@ fn inward_of(channels: &[Channel]) -> u128
 {
     let mut inward = 0;
     for (c, channel) in channels.iter().enumerate() {
-        inward = with_bit(inward, c, channel.dir == Dir::Inward);
+        inward = with_bit(inward, c, is_inward(channel.dir));
     }
     inward
 }

@@ -34,7 +34,7 @@ returns-then-is_beside c =
       fed = named;
       packet = λ t have are same.
           (let e = ap length same in
-          beside-is t have c.in-Some.b c.kind_of-kind.result x c.args.cursor.now c.cursor_of.result.now
+          beside-is t c.args.cursors.now.epoch have c.in-Some.b c.kind_of-kind.result x c.args.cursor.now c.cursor_of.result.now
           (ap (λ cs. slice_get cs c.in-Some.b) same ∙ slice_get_read c.args.channels.now (length c.args.channels.now) c.in-Some.b x refl l c.index-channels-b.is)
           (c.kind_of-kind.ensures ∙ ap (λ (y : Channel). kind_of y.dir) (sym c.index-channels-b.is))
           (c.cursor_of.ensures t have are (omega (arith, l, e)))

@@ -1,4 +1,5 @@
 use Rattle.std.proofs.Common.{refl, arith}
+use Rattle.trace_code.specs.trace_model.Epoch.{epoch}
 use Rattle.replay_run.proofs.Fills.{fed-all, fed-more, none-left, place-more, ports-few}
 use Rattle.replay_run.proofs.feeding.fill.Goals as goal
 
@@ -35,11 +36,11 @@ loop-c-preserved c =
       below = none-left left rest c.loop-c.c c.with_bit_as-left.ensures.here c.with_bit_as-left.ensures.others c.loop-c.invariant.below;
       fed = λ t have are same but.
           (let so_far = c.loop-c.invariant.fed t have are same but in
-          fed-more c.args.channels.now t.packets have left rest c.loop-c.c c.loop-c.feed c.feed_named.new.feed c.feed_named.ensures.others
+          fed-more c.args.channels.now (epoch c.args.cursors.now.epoch t.packets) have left rest c.loop-c.c c.loop-c.feed c.feed_named.new.feed c.feed_named.ensures.others
           (c.feed_named.ensures.here t have are same so_far) c.with_bit_as-left.ensures.others so_far);
     }
 
 pub returns-clause-feed : goal.returns-clause-feed
 returns-clause-feed c t have are same but =
-    fed-all c.args.channels.now t.packets have c.loop-c.left c.loop-c.c c.loop-c.feed (let l = c.loop-c-test.false in omega (arith, l))
+    fed-all c.args.channels.now (epoch c.args.cursors.now.epoch t.packets) have c.loop-c.left c.loop-c.c c.loop-c.feed (let l = c.loop-c-test.false in omega (arith, l))
     c.loop-c.invariant.below (c.loop-c.invariant.fed t have are same but)
