@@ -4,7 +4,6 @@ use Rattle.sample_gen.specs.trace_model.declared.row.Row.{Row}
 use Rattle.sample_gen.specs.trace_model.declared.trace.Trace.{Trace}
 use Rattle.sample_gen.specs.trace_model.Recording.{trace_of}
 use Rattle.replay_command.specs.trace_code.Encoding.{Encodes, encode}
-use Rattle.replay_command.specs.trace_code.NoReset.{HasNoReset}
 use Rattle.replay_command.specs.trace_compare.Findings.{findings}
 use Rattle.sample_gen.specs.trace_model.declared.packet.TheConstants.{MOST_CYCLES}
 use Rattle.sample_gen.specs.env_script.declared.stalls.Stalls.{Stalls}
@@ -52,12 +51,11 @@ IsTraced design map script stalls bytes = (b : Bench) × (plan : Stalls) × (row
 
 -- ---- replaying, as `replay` does
 
--- the texts say this design with its map, and the bytes encode this trace of the map's channels without a reset
+-- the texts say this design with its map, and the bytes encode this trace of the map's channels
 pub record IsReplayableTexts (design map bytes : List ℕ) (v : Device) (t : Trace) : Type 0 where
   pub device : IsDevice design map v
   pub encodes : Encodes t bytes
   pub same : t.channels ≡ v.map.channels
-  pub no_reset : HasNoReset t.packets
 
 -- the line is said, and the findings behind it where there are any
 abbrev pub IsSampleVerdict : List ℕ → Trace → Trace → Ending

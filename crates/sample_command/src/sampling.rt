@@ -3,7 +3,6 @@
 ghost use Rattle.std.specs.Prelude.{◌≡◌, ◌≤◌, ◌++◌, Some, IsSome, IfOk, IfErr, OnOk, length};
 ghost use Rattle.sample_gen.specs.trace_model.declared.trace.Trace.{Trace as OneTrace};
 ghost use Rattle.replay_command.specs.trace_code.Encoding.{Encodes, HasEncoding};
-ghost use Rattle.replay_command.specs.trace_code.NoReset.{HasNoReset};
 ghost use Rattle.sample_gen.specs.declared.generate.TheConstants.{LARGEST};
 ghost use Rattle.replay_command.specs.vidi_bench.AnswerText.{text_of};
 ghost use Rattle.replay_command.specs.vidi_bench.Benches.{AreWithin, IsPlayable};
@@ -158,7 +157,6 @@ fn replayed(
     requires runnable { IsRunnable device }
     requires encodes { Encodes trace.now bytes.now }
     requires same { trace.now.channels ≡ device.map.channels }
-    requires no_reset { HasNoReset trace.now.packets }
     ensures { IfOk result (λ a. IsSampleReplay figures device trace.now a.status (text_of a.text)) }
 {
     let Replayed { outcome, out } = played(alloc, device, bytes, MOST_CYCLES)?;

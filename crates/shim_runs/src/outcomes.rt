@@ -62,7 +62,7 @@ fn put_waits(text: &mut Vec<u8>, waits: &[Event]) -> Result<(), Memory> {
     Ok(())
 }
 
-/// `CHANNEL start INDEX `, or `CHANNEL end INDEX `
+/// `CHANNEL start INDEX `, `CHANNEL end INDEX ` or, on channel 0, `0 reset INDEX `
 fn put_event(text: &mut Vec<u8>, event: Event) -> Result<(), Memory> {
     put_number(text, event.channel)?;
     match event.kind {

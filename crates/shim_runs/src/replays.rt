@@ -7,7 +7,6 @@ ghost use Rattle.net_design.specs.declared.design.Design.{Design as OneDesign};
 ghost use Rattle.shim_cosim.specs.trace_model.declared.trace.Trace.{Trace as OneTrace};
 ghost use Rattle.shim_cosim.specs.trace_model.declared.packet.TheConstants.{MOST_CYCLES};
 ghost use Rattle.shim_cosim.specs.trace_code.Encoding.{Encodes};
-ghost use Rattle.shim_cosim.specs.trace_code.NoReset.{HasNoReset};
 ghost use Rattle.shim_cosim.specs.run_model.Building.{PortsAreNets};
 ghost use Rattle.shim_cosim.specs.run_model.MapOf.{IsMapOf};
 ghost use Rattle.shim_cosim.specs.Top.{IsWrapOf};
@@ -22,7 +21,6 @@ use report_text::vidi_io::{Shelf, Text};
 use shim_cosim::Rewrapped;
 use shim_cosim::chan_map::Map;
 use shim_cosim::chan_replayer::{ReplayMachines, ReplayShell};
-use shim_cosim::replay_run::has_reset;
 use shim_cosim::trace_code::decode;
 use shim_cosim::trace_model::{Trace, same_channels};
 use std::alloc::Global;
@@ -62,16 +60,12 @@ fn both_replays<S: Shelf, B: Block + Drop>(
     Ok(text)
 }
 
-/// The trace of these bytes, which has the channels of the map and no reset.
+/// The trace of these bytes, which has the channels of the map.
 fn trace_over(alloc: Global, bytes: &[u8], map: &Map) -> Result<Trace, Ended>
     ensures encodes { IfOk result (λ trace. Encodes trace bytes.now) }
     ensures same { IfOk result (λ trace. trace.channels ≡ map.now.channels) }
-    ensures no_reset { IfOk result (λ trace. HasNoReset trace.packets) }
 {
     let trace = trace_of(alloc, bytes)?;
-    if has_reset(trace.packets.as_slice()) {
-        return Err(Ended::Usage);
-    }
     match same_channels(&trace.channels, &map.channels) {
         None => Ok(trace),
         Some(_) => Err(Ended::Usage),
@@ -99,7 +93,7 @@ fn by_machines<B: Block + Drop>(
 ) -> Result<(), Ended>
     requires nets { PortsAreNets (B.design block) }
     requires mapped { IsMapOf (B.design block) map.now }
-    requires trace { (t : OneTrace) × Encodes t bytes.now × (t.channels ≡ map.now.channels) × HasNoReset t.packets }
+    requires trace { (t : OneTrace) × Encodes t bytes.now × (t.channels ≡ map.now.channels) }
     requires few { cycles ≤ MOST_CYCLES }
 {
     put(text, b"machines ")?;
@@ -117,7 +111,7 @@ fn by_wrapped(
     cycles: u32,
 ) -> Result<(), Ended>
     requires wrapped { (f : FileOf ℕ) × (d : OneDesign) × IsWrapOf (plain wrapped.now) f map.now d }
-    requires trace { (t : OneTrace) × Encodes t bytes.now × (t.channels ≡ map.now.channels) × HasNoReset t.packets }
+    requires trace { (t : OneTrace) × Encodes t bytes.now × (t.channels ≡ map.now.channels) }
     requires few { cycles ≤ MOST_CYCLES }
 {
     put(text, b"wrapped ")?;
@@ -135,7 +129,7 @@ fn put_replay<S: ReplayShell>(
     cycles: u32,
 ) -> Result<(), Ended>
     requires mapped { S.map shell.old ≡ map.now }
-    requires trace { (t : OneTrace) × Encodes t bytes.now × (t.channels ≡ map.now.channels) × HasNoReset t.packets }
+    requires trace { (t : OneTrace) × Encodes t bytes.now × (t.channels ≡ map.now.channels) }
     requires few { cycles ≤ MOST_CYCLES }
 {
     let replayed = shim_cosim::replay_run::replay(alloc, shell, map, bytes, cycles)?;

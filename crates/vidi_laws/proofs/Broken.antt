@@ -13,7 +13,6 @@ use Rattle.vidi_commands.specs.trace_model.Recording.{trace_of}
 use Rattle.vidi_commands.specs.trace_code.declared.error.CodeError.{CodeError}
 use Rattle.vidi_commands.specs.trace_code.declared.error.CodeError.TheVariants as errors
 use Rattle.vidi_commands.specs.trace_code.Decoding.{HasNoHeader}
-use Rattle.vidi_commands.proofs.trace_code_lemmas.NoReset.{no-reset_front}
 use Rattle.vidi_commands.specs.trace_code.Encoding.{HasEncoding, encode, end_mark, header_bytes, packet_bytes}
 use Rattle.vidi_commands.specs.trace_code.Salvage.{front, FrontIsSalvaged, LieWhole, Salvages}
 use Rattle.vidi_commands.specs.trace_v2.Old.{begins_old}
@@ -25,7 +24,7 @@ use Rattle.vidi_commands.specs.Said.{salvaged_line}
 use Rattle.vidi_commands.specs.run_commands.Records.{course_of}
 use Rattle.vidi_commands.specs.trace_commands.Traces.{trace_limit, IsHeaderless, IsWholeIn, Saves}
 use Rattle.vidi_laws.specs.Headline.{BrokenRecordingIsSalvaged, IsBrokenOff, KeepsWhole, SalvagedTraceIsReplayable}
-use Rattle.vidi_laws.proofs.Headline.{read-there, recorded-no_reset, recorded-short, replayable-there, run-kept}
+use Rattle.vidi_laws.proofs.Headline.{read-there, recorded-short, replayable-there, run-kept}
 use Rattle.vidi_laws.proofs.OneEnding.{one-read, reading-apart}
 use Rattle.vidi_laws.proofs.OneSalvaged.{found, wanting, no_memory, same_found}
 use Rattle.vidi_laws.proofs.OneTraces.{old-or-new}
@@ -155,4 +154,4 @@ salvaged-replayable design map script stalls files b plan planned rows stop run 
     let small : length (encode t) ≤ trace_limit = recorded-short design map script stalls (Some files) b plan planned rows stop run in
     let l : length (encode (front count t)) ≤ length (encode t) = front-short t count in
     replayable-there design map script stalls files b plan planned (front count t) (front-encodes t encodes count) refl
-    (no-reset_front count t.packets (recorded-no_reset (course_of b plan) rows stop run)) (omega (arith, small, l)) trace now same same' there
+    (omega (arith, small, l)) trace now same same' there

@@ -1,79 +1,96 @@
 -- What holds of every replay, said of the three files.
-use Rattle.std.proofs.Common.{◌≡◌, ℕ, ◌≤◌, false, List, [], ◌∷◌, ◌++◌, Some, length, slice_get, refl, subst, arith}
-use Rattle.std.proofs.lemmas.List.{take_at}
+use Rattle.std.proofs.Common.{◌≡◌, ℕ, suc, ◌<◌, ◌≤◌, List, [], Some, get_or, length, slice_get, refl, sym, subst, ◌∙◌, arith, ⊎_elim}
+use Rattle.std.proofs.lemmas.Bool.{cases_lt}
+use Rattle.std.proofs.lemmas.List.{flat_map_more, length_push}
+use Rattle.std.proofs.lemmas.Option.{slice_get-get_or}
 use Rattle.vidi_commands.specs.trace_model.declared.channel.Channel.{Channel}
 use Rattle.vidi_commands.specs.trace_model.declared.packet.Packet.{Packet}
 use Rattle.vidi_commands.specs.trace_model.declared.row.Row.{Row}
-use Rattle.vidi_commands.specs.trace_model.Recording.{trace_of}
+use Rattle.vidi_commands.specs.trace_model.Epoch.{epoch, resets}
+use Rattle.vidi_commands.specs.trace_model.Recording.{packets_from, trace_of}
 use Rattle.vidi_commands.specs.trace_model.Trace.{IsWellFormed}
-use Rattle.vidi_commands.specs.trace_code.NoReset.{HasNoReset}
-use Rattle.vidi_commands.proofs.trace_code_lemmas.NoReset.{rows-no_reset}
-use Rattle.vidi_commands.proofs.trace_code_lemmas.RowsBytes.{rows-few}
+use Rattle.vidi_commands.specs.trace_code.Encoding.{HasEncoding}
 use Rattle.net_design.specs.declared.design.Design.{Design}
 use Rattle.vidi_commands.specs.chan_map.declared.pins.Map.{Map}
-use Rattle.vidi_commands.specs.run_model.Played.{AreStable}
-use Rattle.vidi_commands.specs.run_model.Replay.{IsReplay, IsReplayRow}
-use Rattle.vidi_commands.proofs.run_model_lemmas.Circle.{no-circle}
-use Rattle.vidi_commands.proofs.run_model_lemmas.PlayedLaws.{played-front}
-use Rattle.vidi_commands.proofs.run_model_lemmas.ReplayLaws.{order-in_the_output, replay-keeps_contents}
+use Rattle.vidi_commands.specs.run_model.Laws.{AreInOrder}
+use Rattle.vidi_commands.specs.run_model.Stretches.{and_stretch, rows_of}
 use Rattle.vidi_commands.specs.replay_run.declared.outcome.ReplayOutcome.{ReplayOutcome}
 use Rattle.vidi_commands.specs.replay_run.declared.outcome.ReplayOutcome.TheVariants.{Ended, Short, Unstable}
-use Rattle.vidi_commands.specs.replay_run.Replaying.{EndsAs, GoesInNoCircle}
-use Rattle.vidi_laws.specs.Headline.{AreNamed, ReplayIsFaithful}
-use Rattle.vidi_laws.proofs.Gaps.{order-of_trace}
+use Rattle.vidi_commands.specs.replay_run.Epochs.{epochs}
+use Rattle.vidi_commands.specs.replay_run.Replaying.{ArePrefixes, EndsAs}
+use Rattle.vidi_commands.specs.replay_run.run_stage.Stretching.{all_rows}
+use Rattle.vidi_commands.proofs.replay_run_lemmas.Epochs.{epoch-past, epochs-long}
+use Rattle.vidi_commands.proofs.replay_run_lemmas.Prefix.{prefixes}
+use Rattle.vidi_commands.proofs.replay_run_lemmas.Stretched.{are-marked, ends-contents, ends-encoded, ends-free, ends-order, ends-played}
+use Rattle.vidi_laws.specs.Headline.{AreNamed, IsInOrderOf, ReplayIsFaithful}
+use Rattle.vidi_laws.proofs.Gaps.{order-bare, recorded-bare, trace-epochs, IsTraceOf}
 use Rattle.vidi_laws.proofs.KeptOrder.{findings-keep}
 
-module _ (d : Design) (m : Map) (packets : List Packet) (n : ℕ) (rows : List Row) where
-  -- however they end, the rows are a replay's and stable, and at most as many as the cycles
-  record AreReplayed : Type 0 where
-    played : IsReplay d m packets rows
-    stable : AreStable m.channels rows
-    within : length rows ≤ n
+-- where nothing is recorded all is in order
+none-in_order : (channels : List Channel) (packets : List Packet) → AreInOrder channels packets []
+none-in_order channels packets = record {
+  events = λ kind c j p x packet at held is. absurd (none-at p packet is.at);
+  contents = λ c x at inward. refl;
+}
+  where
+    none-at : (p : ℕ) (packet : Packet) → slice_get [] p ≡ Some packet → ⊥
+    none-at p packet at = cc
 
-  replayed-rows : (o : ReplayOutcome) → EndsAs d m packets n rows o → AreReplayed
-  replayed-rows (Ended cycles) (e, same) = record { played = e.played; stable = e.stable; within = e.within }
-  replayed-rows (Short helds events) (e, held_are, waits_are) =
-      record { played = e.played; stable = e.stable; within = (let l = e.all in omega (arith, l)) }
-  replayed-rows (Unstable channel cycle) (e, same) = record {
-    played = subst (IsReplay d m packets) (take_at rows (e.stops.next ∷ []) (length rows) refl)
-        (played-front d m (IsReplayRow m.channels packets) (rows ++ e.stops.next ∷ []) (length rows) e.stops.played);
-    stable = e.stops.stable;
-    within = (let l = e.within in omega (arith, l));
-  }
+module _ (d : Design) (m : Map) (packets : List Packet) (n : ℕ) (past : List (List Row)) (here : List Row) (o : ReplayOutcome)
+    (ends : EndsAs d m packets n past here o) (out : List Packet) (of : IsTraceOf m.channels (and_stretch past here) out) where
+  abbrev stretches : List (List Row)
+  stretches = and_stretch past here
 
-  lists-named : (o : ReplayOutcome) → EndsAs d m packets n rows o → AreNamed m.channels packets rows o
-  lists-named (Ended cycles) ends = tt
-  lists-named (Short helds events) (e, held_are, waits_are) = (held_are, waits_are)
-  lists-named (Unstable channel cycle) ends = tt
+  few-resets : resets out ≤ resets packets
+  few-resets =
+      let many = of.many in
+      let few = (ends-order d m packets n past here o ends).few in
+      let all = epochs-long 0 (suc (resets packets)) packets in
+      omega (arith, many, few, all)
 
-  in-no_circle : IsWellFormed (record { channels = m.channels; packets = packets }) → HasNoReset packets → (o : ReplayOutcome)
-      → EndsAs d m packets n rows o → GoesInNoCircle m.channels packets rows o
-  in-no_circle well none (Ended cycles) ends = tt
-  in-no_circle well none (Short helds events) (e, held_are, waits_are) =
-      let law = no-circle d m packets rows well none e.played e.stable e.not_ended in
-      (law.0.0, law.0.1, law.1 law.0.0 law.0.1)
-  in-no_circle well none (Unstable channel cycle) ends = tt
+  epoch-order : (e : ℕ) → AreInOrder m.channels (epoch e packets) (epoch e out)
+  epoch-order e = ⊎_elim
+      (λ (past-all : resets out < e). subst (AreInOrder m.channels (epoch e packets)) (sym (epoch-past e out past-all))
+      (none-in_order m.channels (epoch e packets)))
+      (λ (there : e ≤ resets out).
+      (let many = of.many in
+      let rows = get_or stretches e [] in
+      let at : slice_get stretches e ≡ Some rows = slice_get-get_or stretches e [] (omega (arith, many, there)) in
+      order-bare m.channels (epoch e packets) (epoch e out) (subst (AreInOrder m.channels (epoch e packets)) (sym (of.each e rows at))
+      ((ends-order d m packets n past here o ends).each e rows at))))
+      (cases_lt (resets out) e)
+
+  in-order : ArePrefixes m.channels packets out → IsInOrderOf m.channels packets out
+  in-order contents = record { few = few-resets; order = epoch-order; contents = contents }
+
+lists-named : (d : Design) (m : Map) (packets : List Packet) (n : ℕ) (past : List (List Row)) (here : List Row) (o : ReplayOutcome)
+    → EndsAs d m packets n past here o → AreNamed m.channels packets past here o
+lists-named d m packets n past here (Ended cycles) ends = tt
+lists-named d m packets n past here (Short helds events) (e, held_are, waits_are) = (held_are, waits_are)
+lists-named d m packets n past here (Unstable channel cycle) ends = tt
 
 pub replay-faithful : ReplayIsFaithful
-replay-faithful design map trace files v t is n small rows o ends =
+replay-faithful design map trace files v t is n small rows o x =
+    let d = v.design in
     let m = v.map in
-    let all = replayed-rows v.design m t.packets n rows o ends in
-    let laws = replay-keeps_contents v.design m t.packets rows all.played all.stable in
+    let ss = and_stretch x.past x.here in
+    let some = length_push x.past x.here in
+    let played = (ends-played d m t.packets n x.past x.here o x.ends).played in
+    let whole : rows_of ss ≡ rows = sym (flat_map_more (λ (rs : List Row). rs) [] x.past x.here) ∙ x.rows_are in
+    let of : IsTraceOf m.channels ss (trace_of m.channels rows).packets =
+    subst (λ (rs : List Row). IsTraceOf m.channels ss (packets_from m.channels 0 0 rs)) whole
+    (trace-epochs m.channels ss (are-marked d m (epochs t.packets) ss played) (omega (arith, some))) in
     let well = subst (λ (cs : List Channel). IsWellFormed (record { channels = cs; packets = t.packets })) is.same
     is.encodes.0.well_formed in
-    let packets = rows-few m.channels rows in
-    let within : length rows ≤ n = all.within in
-    let plain : (k : ℕ) (row : Row) → slice_get rows k ≡ Some row → row.fresh ≡ false = λ k row at. (all.played.ruled k row at).2 in
-    let order = order-of_trace m.channels t.packets rows plain (order-in_the_output v.design m t.packets rows all.played all.stable) in
+    let contents = subst (λ (rs : List Row). ArePrefixes m.channels t.packets (trace_of m.channels rs).packets) x.rows_are
+    (prefixes d m t.packets x.past x.here played (ends-order d m t.packets n x.past x.here o x.ends) well.packets) in
+    let order = in-order d m t.packets n x.past x.here o x.ends (trace_of m.channels rows).packets of contents in
     record {
       order = order;
-      unbroken = findings-keep m.channels t.packets (trace_of m.channels rows).packets is.no_reset (rows-no_reset m.channels 0 0 rows plain) order;
-      contents = laws.0;
-      named = lists-named v.design m t.packets n rows o ends;
-      free = in-no_circle v.design m t.packets n rows well is.no_reset o ends;
-      encoded = record {
-        table = is.device.bound.1.table;
-        well_formed = laws.1 (omega (arith, within, small));
-        few = omega (arith, packets, within, small);
-      };
+      unbroken = findings-keep m.channels t.packets (trace_of m.channels rows).packets order.few order.order;
+      contents = ends-contents d m t.packets n x.past x.here o x.ends;
+      named = lists-named d m t.packets n x.past x.here o x.ends;
+      free = ends-free d m t.packets n x.past x.here o well x.ends;
+      encoded = subst (λ (rs : List Row). HasEncoding (trace_of m.channels rs)) x.rows_are
+          (ends-encoded d m t.packets n x.past x.here o is.device.bound.1.table small x.ends);
     }

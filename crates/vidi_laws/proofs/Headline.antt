@@ -8,8 +8,6 @@ use Rattle.vidi_commands.specs.trace_model.Recording.{trace_of}
 use Rattle.vidi_commands.specs.run_model.Stretches.{rows_of}
 use Rattle.vidi_commands.specs.trace_model.declared.trace.Trace.{Trace}
 use Rattle.vidi_commands.specs.trace_code.Encoding.{encode, HasEncoding}
-use Rattle.vidi_commands.specs.trace_code.NoReset.{HasNoReset}
-use Rattle.vidi_commands.proofs.trace_code_lemmas.NoReset.{rows-no_reset}
 use Rattle.vidi_commands.specs.trace_model.declared.packet.TheConstants.{MOST_CYCLES}
 use Rattle.vidi_commands.specs.env_script.ScriptOffer.{script_offer}
 use Rattle.vidi_commands.specs.env_script.declared.stalls.Stalls.{Stalls}
@@ -74,9 +72,9 @@ read-there limit name file now there small =
 -- the encoding of a trace of the map's channels is replayed on the design and the map that were recorded
 pub replayable-there : (design map script stalls : List ℕ) (files : Files) (b : Bench) (plan : Stalls)
     → IsPlanned design map script stalls (Some files) b plan → (t : Trace) → HasEncoding t → t.channels ≡ b.device.map.channels
-    → HasNoReset t.packets → length (encode t) ≤ trace_limit → (trace : List ℕ) (now : Files) → get now design ≡ get files design → get now map ≡ get files map
+    → length (encode t) ≤ trace_limit → (trace : List ℕ) (now : Files) → get now design ≡ get files design → get now map ≡ get files map
     → get now trace ≡ Some (encode t) → IsReplayable design map trace (Some now) b.device t
-replayable-there design map script stalls files b plan planned t encodes of none small trace now same same' there = record {
+replayable-there design map script stalls files b plan planned t encodes of small trace now same same' there = record {
   design_text = planned.design_text;
   map_text = planned.map_text;
   trace_bytes = encode t;
@@ -86,22 +84,12 @@ replayable-there design map script stalls files b plan planned t encodes of none
   device = planned.bench.device;
   encodes = (encodes, refl);
   same = of;
-  no_reset = none;
 }
-
--- no row of a run is fresh, so its trace has no reset
-pub recorded-no_reset : (w : Course) (rows : List Row) (stop : Option ℕ) → IsTheRunOf w rows stop
-    → HasNoReset (trace_of w.bound.channels rows).packets
-recorded-no_reset w rows stop run =
-    let parts = the-run w rows stop run in
-    let plain : (t : ℕ) (row : Row) → slice_get rows t ≡ Some row → row.fresh ≡ false = λ t row at. (parts.0.ruled t row at).2 in
-    rows-no_reset w.bound.channels 0 0 rows plain
 
 pub recorded-replayable : RecordedTraceIsReplayable
 recorded-replayable design map script stalls files b plan planned rows stop run trace now same same' there =
     replayable-there design map script stalls files b plan planned (trace_of b.device.map.channels rows)
     (run-kept design map script stalls (Some files) b plan planned rows stop run).encoded refl
-    (recorded-no_reset (course_of b plan) rows stop run)
     (recorded-short design map script stalls (Some files) b plan planned rows stop run) trace now same same' there
 
 pub printed-keeps : PrintedRunKeepsContents

@@ -1,4 +1,4 @@
--- What keeps the order of a trace has no finding against it that breaks the order.
+-- What keeps the order of a trace, epoch by epoch, has no finding against it that breaks the order.
 use Rattle.std.proofs.Common.{◌≡◌, ℕ, zero, suc, ◌+◌, ◌<◌, ◌≤◌, Bool, true, false, cond, List, [], ◌∷◌, ◌++◌, Some, length, take, map}
 use Rattle.std.proofs.Common.{All, refl, sym, ap, subst, ◌∙◌, ⊎_elim, arith}
 use Rattle.std.specs.Prelude.{min, not, nat_eq, nat_lt, slice_get}
@@ -21,8 +21,6 @@ use Rattle.vidi_commands.specs.trace_model.Counting.{IsNth}
 use Rattle.vidi_commands.specs.trace_model.Epoch.{epoch, resets}
 use Rattle.vidi_commands.specs.trace_model.Packet.{content_of, count, does}
 use Rattle.vidi_commands.proofs.trace_model_lemmas.CountingLemmas.{count-cons, nth, nth-below, nth-unique}
-use Rattle.vidi_commands.specs.trace_code.NoReset.{HasNoReset}
-use Rattle.vidi_commands.proofs.trace_code_lemmas.NoReset.{epoch-whole}
 use Rattle.vidi_commands.specs.trace_compare.declared.report.Finding.{Finding}
 use Rattle.vidi_commands.specs.trace_compare.declared.report.What.{What}
 use Rattle.vidi_commands.specs.trace_compare.declared.report.What.TheVariants.{Differs, ExtraReset, MissingReset}
@@ -234,26 +232,19 @@ module _ (channels : List Channel) (a b : List Packet) (order : AreInOrder chann
     epoch-keeps = each-keeps channels (findings_on e channels a b) (range_with_len 0 (length channels)) channel-keeps
 
 -- ---- resets
-resets-keep : (channels : List Channel) (a b : List Packet) → HasNoReset b → All (KeepsOrder channels) (only_one 0 Reset 0 a b)
-resets-keep channels a b none =
+resets-keep : (channels : List Channel) (a b : List Packet) → resets b ≤ resets a → All (KeepsOrder channels) (only_one 0 Reset 0 a b)
+resets-keep channels a b few =
     All-append (KeepsOrder channels) (found (nat_lt (resets b) (resets a)) 0 0 MissingReset (resets b) 1)
     (found (nat_lt (resets a) (resets b)) 0 0 ExtraReset (resets a) 1)
     (found-keeps channels (nat_lt (resets b) (resets a)) 0 0 MissingReset (resets b) 1 (λ holds x at. missing-keeps x.dir Reset))
     (found-keeps channels (nat_lt (resets a) (resets b)) 0 0 ExtraReset (resets a) 1
-    (λ holds x at. absurd (not-above (resets a) (resets b) (omega (arith, none)) holds)))
+    (λ holds x at. absurd (not-above (resets a) (resets b) few holds)))
 
--- ---- without resets there is one epoch
-one-epoch : (a b : List Packet) → HasNoReset a → HasNoReset b → range_with_len 0 (epochs_in_both a b) ≡ 0 ∷ []
-one-epoch a b first second = ap (λ (n : ℕ). range_with_len 0 (min n (resets b) + 1)) first ∙ ap (λ (n : ℕ). range_with_len 0 (min 0 n + 1)) second
-
-pub findings-keep : (channels : List Channel) (a b : List Packet) → HasNoReset a → HasNoReset b → AreInOrder channels a b
+pub findings-keep : (channels : List Channel) (a b : List Packet) → resets b ≤ resets a
+    → ((e : ℕ) → AreInOrder channels (epoch e a) (epoch e b))
     → All (KeepsOrder channels) (findings (record { channels = channels; packets = a }) (record { channels = channels; packets = b }))
-findings-keep channels a b first second order =
-    let P = KeepsOrder channels in
-    let here : AreInOrder channels (epoch 0 a) (epoch 0 b) = subst (λ (ps : List Packet). AreInOrder channels ps (epoch 0 b))
-    (sym (epoch-whole a first)) (subst (AreInOrder channels a) (sym (epoch-whole b second)) order) in
-    let keeps = epoch-keeps channels (epoch 0 a) (epoch 0 b) here 0 in
-    All-append P (flat_map (findings_in channels a b) (range_with_len 0 (epochs_in_both a b))) (only_one 0 Reset 0 a b)
-    (subst (λ (es : List ℕ). All P (flat_map (findings_in channels a b) es)) (sym (one-epoch a b first second))
-    (All-append P (findings_in channels a b 0) [] keeps (All-nil P)))
-    (resets-keep channels a b second)
+findings-keep channels a b few order =
+    All-append (KeepsOrder channels) (flat_map (findings_in channels a b) (range_with_len 0 (epochs_in_both a b))) (only_one 0 Reset 0 a b)
+    (each-keeps channels (findings_in channels a b) (range_with_len 0 (epochs_in_both a b))
+    (λ e. epoch-keeps channels (epoch e a) (epoch e b) (order e) e))
+    (resets-keep channels a b few)

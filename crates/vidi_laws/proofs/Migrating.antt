@@ -3,7 +3,6 @@ use Rattle.std.proofs.Common.{◌≤◌, ℕ, List, Some, length, refl, ap, subs
 use Rattle.vidi_commands.specs.trace_model.declared.trace.Trace.{Trace}
 use Rattle.vidi_commands.specs.trace_code.Decoding.{OneReading}
 use Rattle.vidi_commands.specs.trace_code.Encoding.{encode, Encodes}
-use Rattle.vidi_commands.proofs.trace_code_lemmas.NoReset.{no-reset_when}
 use Rattle.vidi_commands.specs.trace_v2.Old.{EncodesOld}
 use Rattle.vidi_commands.proofs.trace_v2_lemmas.Migrated.{has-encoding, migrated-short}
 use Rattle.vidi_commands.specs.vidi_bench.Reading.{IsRead}
@@ -34,7 +33,6 @@ migrated-replayed reading old t code small design map design_text map_text files
         device = device;
         encodes = encodes;
         same = same;
-        no_reset = no-reset_when t.packets (λ k p at. (code.0.old k p at).1);
       },
       λ u is. reading (encode t) u t
           (subst (λ (bytes : List ℕ). Encodes u bytes) (one-read trace_limit trace files is.trace_bytes (encode t) is.trace_read read) is.encodes)

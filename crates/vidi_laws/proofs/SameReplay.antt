@@ -1,5 +1,5 @@
 -- `replay`: one answer, which leaves one trace.
-use Rattle.std.proofs.Common.{◌≡◌, ◌≢◌, ℕ, Bool, List, Option, Some, inl, inr, ◌++◌, ◌∷◌, [], sym, ap, subst, ◌∙◌}
+use Rattle.std.proofs.Common.{◌≡◌, ◌≢◌, ℕ, Bool, List, Option, Some, inl, inr, ◌++◌, ◌∷◌, [], drop, length, sym, ap, subst, ◌∙◌}
 use Rattle.std.specs.Prelude.{slice_get}
 use Rattle.vidi_commands.specs.trace_model.declared.channel.Channel.{Channel}
 use Rattle.vidi_commands.specs.trace_model.declared.packet.Packet.{Packet}
@@ -8,19 +8,20 @@ use Rattle.vidi_commands.specs.trace_model.declared.trace.Trace.{Trace}
 use Rattle.vidi_commands.specs.trace_model.Recording.{trace_of}
 use Rattle.vidi_commands.specs.trace_code.Decoding.{OnePlace, OneReading}
 use Rattle.vidi_commands.specs.trace_code.Encoding.{encode, Encodes}
-use Rattle.vidi_commands.specs.trace_code.NoReset.{HasNoReset}
 use Rattle.net_design.specs.declared.design.Design.{Design}
 use Rattle.net_design.specs.Lawful.{IsLawful}
 use Rattle.vidi_commands.specs.chan_map.declared.pins.Map.{Map}
 use Rattle.vidi_commands.specs.run_model.Alike.{AreAlike}
 use Rattle.vidi_commands.specs.run_model.AlikeLaws.{DrivenAlike}
 use Rattle.vidi_commands.specs.run_model.Laws.{ContentsFit}
-use Rattle.vidi_commands.specs.run_model.Played.{IsPlayed}
-use Rattle.vidi_commands.specs.run_model.Replay.{IsReplayRow}
+use Rattle.vidi_commands.specs.run_model.Stretches.{and_stretch, AreStretches, IsEpochReplay, TurnsEpoch}
 use Rattle.vidi_commands.specs.replay_run.declared.outcome.ReplayOutcome.{ReplayOutcome}
 use Rattle.vidi_commands.specs.replay_run.declared.outcome.ReplayOutcome.TheVariants as outcomes
 use Rattle.vidi_commands.specs.replay_run.Laws.{OneOutcome}
+use Rattle.vidi_commands.specs.replay_run.Ended.{AreTraceReplay}
+use Rattle.vidi_commands.specs.replay_run.Epochs.{epochs}
 use Rattle.vidi_commands.specs.replay_run.Replaying.{EndsAs}
+use Rattle.vidi_commands.specs.replay_run.run_stage.Stretching.{all_rows}
 use Rattle.vidi_commands.specs.vidi_io.Shelf.{Files, holding}
 use Rattle.vidi_commands.specs.vidi_io.Writing.{IsWritten}
 use Rattle.vidi_commands.specs.report_text.Short.{short_lines}
@@ -31,13 +32,15 @@ use Rattle.vidi_commands.specs.vidi_bench.vidi_answer.declared.status.Status.The
 use Rattle.vidi_commands.specs.vidi_bench.Design.{text_limit}
 use Rattle.vidi_commands.specs.vidi_bench.Devices.{IsDevice}
 use Rattle.vidi_commands.specs.vidi_bench.Reading.{Reading}
-use Rattle.vidi_commands.specs.replay_command.Replays.{IsReplayable, IsReplaySaid, IsUnfit, IsUnreplayed, RefusedReplay, RefusedTrace, Replays}
+use Rattle.vidi_commands.specs.vidi_bench.Steps.{Ending}
+use Rattle.vidi_commands.specs.vidi_bench.Traces.{HasOtherChannels}
+use Rattle.vidi_commands.specs.replay_command.Replays.{IsReplayable, IsReplaySaid, IsTheReplay, IsUnreplayed, RefusedReplay, RefusedTrace, Replays}
 use Rattle.vidi_commands.specs.replay_command.Replays.{ReplaysTrace}
 use Rattle.vidi_commands.specs.replay_command.Said.{replayed_line, unstable_line}
 use Rattle.vidi_commands.specs.trace_commands.Traces.{trace_limit}
 use Rattle.vidi_laws.proofs.OneEnding.{One, OneBy, one-said, one-read, one-reading-by, reading-apart}
 use Rattle.vidi_laws.proofs.OneCheck.{Alike, alike}
-use Rattle.vidi_laws.proofs.OneTraces.{no_trace-apart, one-decoding, one-other, one-reset, one-verdict, reset-apart}
+use Rattle.vidi_laws.proofs.OneTraces.{no_trace-apart, one-decoding, one-other, one-verdict}
 use Rattle.vidi_laws.proofs.SameDevice.{DeviceLaws, SameDevice, one-wiring, same-device, wiring-apart}
 use Rattle.vidi_laws.proofs.SameRecord.{LeftAlike}
 
@@ -50,34 +53,77 @@ pub record ReplayLaws : Type 0 where
   pub outcome : OneOutcome
 
 -- ---- the replays of designs that are alike
-module _ (law : DrivenAlike) (d e : Design) (lawful : IsLawful d) (same : AreAlike d e) (m : Map) (packets : List Packet) where
-  played-too : (rows : List Row) → IsPlayed e m (IsReplayRow m.channels packets) rows → IsPlayed d m (IsReplayRow m.channels packets) rows
-  played-too rows p = record { marked = p.marked; driven = (law d e lawful same m rows).1 p.driven; ruled = p.ruled }
+module _ (law : DrivenAlike) (d e : Design) (lawful : IsLawful d) (same : AreAlike d e) (m : Map) where
+  stretch-too : (all : ℕ) (epochs : List (List Packet)) (rows : List Row) → IsEpochReplay e m all epochs rows → IsEpochReplay d m all epochs rows
+  stretch-too all [] rows is = absurd is
+  stretch-too all (packets ∷ epochs) rows is =
+      record { marked = is.marked; driven = (law d e lawful same m rows).1 is.driven; ruled = is.ruled }
 
-  ends-too : (n : ℕ) (rows : List Row) (o : ReplayOutcome) → EndsAs e m packets n rows o → EndsAs d m packets n rows o
-  ends-too n rows (outcomes.Ended cycles) (x, long) = (
-    record { played = played-too rows x.played; stable = x.stable; within = x.within; ended = x.ended; shortest = x.shortest },
-    long,
-  )
-  ends-too n rows (outcomes.Short helds events) (x, held_are, waits_are) = (
-    record { played = played-too rows x.played; stable = x.stable; all = x.all; going = x.going; not_ended = x.not_ended },
-    held_are,
-    waits_are,
-  )
-  ends-too n rows (outcomes.Unstable channel cycle) (x, long) = (
+  -- epoch by epoch, of `all`
+  epochs-too : (all : ℕ) (epochs : List (List Packet)) (ss : List (List Row))
+      → AreStretches (IsEpochReplay e m all) (TurnsEpoch m.channels) (λ left rows. drop 1 left) epochs ss
+      → AreStretches (IsEpochReplay d m all) (TurnsEpoch m.channels) (λ left rows. drop 1 left) epochs ss
+  epochs-too all epochs [] are = are
+  epochs-too all epochs (rows ∷ []) are = (stretch-too all epochs rows are.0, are.1)
+  epochs-too all epochs (rows ∷ more ∷ rest) are = (
     record {
-      stops = record {
-        next = x.stops.next;
-        played = played-too (rows ++ x.stops.next ∷ []) x.stops.played;
-        stable = x.stops.stable;
-        unstable = x.stops.unstable;
-      };
-      within = x.within;
-      going = x.going;
-      not_ended = x.not_ended;
+      is = stretch-too all epochs rows are.0.is;
+      some = are.0.some;
+      turns = are.0.turns;
+      unturned = are.0.unturned;
     },
-    long,
+    are.1,
+    epochs-too all (drop 1 epochs) (more ∷ rest) are.2,
   )
+
+  module _ (packets : List Packet) where
+    played-too : (ss : List (List Row)) → AreTraceReplay e m packets ss → AreTraceReplay d m packets ss
+    played-too ss are = epochs-too (length (epochs packets)) (epochs packets) ss are
+
+    ends-too : (n : ℕ) (past : List (List Row)) (here : List Row) (o : ReplayOutcome) → EndsAs e m packets n past here o
+        → EndsAs d m packets n past here o
+    ends-too n past here (outcomes.Ended cycles) (x, long) = (
+      record {
+        played = played-too (and_stretch past here) x.played;
+        stable = x.stable;
+        within = x.within;
+        ended = x.ended;
+        shortest = x.shortest;
+      },
+      long,
+    )
+    ends-too n past here (outcomes.Short helds events) (x, held_are, waits_are) = (
+      record {
+        played = played-too (and_stretch past here) x.played;
+        stable = x.stable;
+        all = x.all;
+        going = x.going;
+        not_ended = x.not_ended;
+      },
+      held_are,
+      waits_are,
+    )
+    ends-too n past here (outcomes.Unstable channel cycle) (x, long) = (
+      record {
+        stops = record {
+          next = x.stops.next;
+          played = played-too (and_stretch past (here ++ x.stops.next ∷ [])) x.stops.played;
+          before = x.stops.before;
+          stable = x.stops.stable;
+          unstable = x.stops.unstable;
+        };
+        within = x.within;
+        going = x.going;
+        not_ended = x.not_ended;
+      },
+      long,
+    )
+
+-- the same stretches have the same rows
+pub same-rows : (past before : List (List Row)) (here there rows others : List Row) → past ≡ before → here ≡ there
+    → all_rows past here ≡ rows → all_rows before there ≡ others → rows ≡ others
+same-rows past before here there rows others first last rows_are others_are =
+    sym rows_are ∙ ap (λ (ss : List (List Row)). all_rows ss here) first ∙ ap (all_rows before) last ∙ others_are
 
 -- ---- what is said
 pub said-once : (t u : Trace) (n : ℕ) (o : ReplayOutcome) → One (IsReplaySaid t u n o)
@@ -87,11 +133,9 @@ said-once t u n (outcomes.Short helds events) a b x y v w =
 said-once t u n (outcomes.Unstable channel cycle) a b x y v w =
     one-said (Unstable channel cycle) (unstable_line t.channels channel cycle) a b x y v w
 
--- what is left of a design and a map
-abbrev LeavesReplay : Design → Map → Trace → ℕ → List ℕ → Option Files → (Bool → Type 0) → Status → List ℕ → Option Files → Type 0
-LeavesReplay d m t n out files Started status text left = (rows : List Row) × (outcome : ReplayOutcome) × EndsAs d m t.packets n rows outcome
-    × IsReplaySaid t (trace_of m.channels rows) n outcome status text
-    × IsWritten files out (encode (trace_of m.channels rows)) Started left
+-- the design of a device with another map
+abbrev pub with_map : Device → Map → Device
+with_map v m = record { design = v.design; order = v.order; map = m }
 
 pub fits : (t : Trace) (bytes : List ℕ) (channels : List Channel) → Encodes t bytes → t.channels ≡ channels → ContentsFit channels t.packets
 fits t bytes channels encodes same = subst (λ (cs : List Channel). ContentsFit cs t.packets) same encodes.0.well_formed.packets
@@ -100,22 +144,18 @@ fits t bytes channels encodes same = subst (λ (cs : List Channel). ContentsFit 
 other-apart : (channels others : List Channel) (at : ℕ) → others ≡ channels → slice_get channels at ≢ slice_get others at → ⊥
 other-apart channels others at same other = other (ap (λ (cs : List Channel). slice_get cs at) (sym same))
 
-one-unfit : (channels : List Channel) (t : Trace) → One (IsUnfit channels t)
-one-unfit channels t a b x y (inl o) (inl p) = one-other words.Trace channels t.channels a b x y o p
-one-unfit channels t a b x y (inl (at, front, other, s)) (inr (same, r)) = absurd (other-apart channels t.channels at same other)
-one-unfit channels t a b x y (inr (same, r)) (inl (at, front, other, s)) = absurd (other-apart channels t.channels at same other)
-one-unfit channels t a b x y (inr (same, r)) (inr (same', q)) = one-reset words.Trace t.packets a b x y r q
+-- it has other channels
+abbrev IsUnfit : List Channel → Trace → Ending
+IsUnfit channels t = HasOtherChannels words.Trace channels t.channels
 
-unfit-apart : (channels : List Channel) (t : Trace) → t.channels ≡ channels → HasNoReset t.packets → (a : Status) (x : List ℕ)
-    → IsUnfit channels t a x → ⊥
-unfit-apart channels t same none a x (inl (at, front, other, s)) = other-apart channels t.channels at same other
-unfit-apart channels t same none a x (inr (same', (n, first, s))) = reset-apart t.packets n none first
+unfit-apart : (channels : List Channel) (t : Trace) → t.channels ≡ channels → (a : Status) (x : List ℕ) → IsUnfit channels t a x → ⊥
+unfit-apart channels t same a x (at, front, other, s) = other-apart channels t.channels at same other
 
 module _ (laws : ReplayLaws) where
   -- ---- what ends the command before anything is replayed
   one-refused_trace : (bytes : List ℕ) (m : Map) → OneBy Alike (RefusedTrace bytes m)
   one-refused_trace bytes m a b x y u v = alike a b x y
-      (one-decoding laws.reading laws.place words.Trace bytes (IsUnfit m.channels) (one-unfit m.channels) a b x y u v)
+      (one-decoding laws.reading laws.place words.Trace bytes (IsUnfit m.channels) (λ t. one-other words.Trace m.channels t.channels) a b x y u v)
 
   pub one-refused_replay : (design m trace : List ℕ) → OneBy Alike (RefusedReplay design m trace)
   one-refused_replay design m trace = one-wiring laws.devices (RefusedTrace trace) (one-refused_trace trace) design m
@@ -129,21 +169,21 @@ module _ (laws : ReplayLaws) where
       (λ k. one-reading-by Alike alike trace_limit words.Trace trace files (RefusedReplay d k) (one-refused_replay d k)))
 
   -- ---- which isn't there where something is replayed
-  trace-apart : (bytes : List ℕ) (m : Map) (t : Trace) → Encodes t bytes → t.channels ≡ m.channels → HasNoReset t.packets
+  trace-apart : (bytes : List ℕ) (m : Map) (t : Trace) → Encodes t bytes → t.channels ≡ m.channels
       → (a : Status) (x : List ℕ) → RefusedTrace bytes m a x → ⊥
-  trace-apart bytes m t encodes same none a x (inl no_trace) = no_trace-apart words.Trace bytes a x t no_trace encodes
-  trace-apart bytes m t encodes same none a x (inr (u, encodes', unfit)) = unfit-apart m.channels t same none a x
+  trace-apart bytes m t encodes same a x (inl no_trace) = no_trace-apart words.Trace bytes a x t no_trace encodes
+  trace-apart bytes m t encodes same a x (inr (u, encodes', unfit)) = unfit-apart m.channels t same a x
       (subst (λ (k : Trace). IsUnfit m.channels k a x) (laws.reading bytes u t encodes' encodes) unfit)
 
   pub refused-apart : (design m trace : List ℕ) (v : Device) (t : Trace) → IsDevice design m v → Encodes t trace
-      → t.channels ≡ v.map.channels → HasNoReset t.packets → (a : Status) (x : List ℕ) → RefusedReplay design m trace a x → ⊥
-  refused-apart design m trace v t device encodes same none a x =
-      wiring-apart laws.devices design m v device (RefusedTrace trace) a x (trace-apart trace v.map t encodes same none a x)
+      → t.channels ≡ v.map.channels → (a : Status) (x : List ℕ) → RefusedReplay design m trace a x → ⊥
+  refused-apart design m trace v t device encodes same a x =
+      wiring-apart laws.devices design m v device (RefusedTrace trace) a x (trace-apart trace v.map t encodes same a x)
 
   module _ (design m trace : List ℕ) (files : Files) (v : Device) (t : Trace) (is : IsReplayable design m trace (Some files) v t)
       (a : Status) (x : List ℕ) where
     replay-apart : RefusedReplay is.design_text is.map_text is.trace_bytes a x → ⊥
-    replay-apart = refused-apart is.design_text is.map_text is.trace_bytes v t is.device is.encodes is.same is.no_reset a x
+    replay-apart = refused-apart is.design_text is.map_text is.trace_bytes v t is.device is.encodes is.same a x
 
     unreplayed-apart : IsUnreplayed design m trace (Some files) (λ _. ⊥) a x → ⊥
     unreplayed-apart = reading-apart text_limit words.Design design files
@@ -170,15 +210,16 @@ module _ (laws : ReplayLaws) where
       )
 
   pub ends-once : (v w : Device) (t : Trace) → SameDevice v w → ContentsFit v.map.channels t.packets → (n : ℕ) (rows others : List Row)
-      (outcome other : ReplayOutcome) → EndsAs v.design v.map t.packets n rows outcome → EndsAs w.design v.map t.packets n others other
+      (outcome other : ReplayOutcome) → IsTheReplay v t n rows outcome → IsTheReplay (with_map w v.map) t n others other
       → (others ≡ rows) × (other ≡ outcome)
-  ends-once v w t same fit n rows others outcome other ends ends' =
-      let theirs = ends-too laws.driven v.design w.design same.ready.lawful same.designs v.map t.packets n others other ends' in
-      (laws.outcome v.design v.map same.ready t.packets fit n).1 others rows other outcome theirs ends
+  ends-once v w t same fit n rows others outcome other x y =
+      let theirs = ends-too laws.driven v.design w.design same.ready.lawful same.designs v.map t.packets n y.past y.here other y.ends in
+      let one = (laws.outcome v.design v.map same.ready t.packets fit n).1 y.past x.past y.here x.here other outcome theirs x.ends in
+      (same-rows y.past x.past y.here x.here others rows one.0 one.1 y.rows_are x.rows_are, one.2)
 
   leaves-once : (v w : Device) (t : Trace) → SameDevice v w → ContentsFit v.map.channels t.packets → (n : ℕ) (out : List ℕ) (files : Files)
       (P Q : Bool → Type 0) (a b : Status) (x y : List ℕ) (left right : Option Files)
-      → LeavesReplay v.design v.map t n out (Some files) P a x left → LeavesReplay w.design v.map t n out (Some files) Q b y right
+      → ReplaysTrace v t n out (Some files) P a x left → ReplaysTrace (with_map w v.map) t n out (Some files) Q b y right
       → LeftAlike a b x y left right
   leaves-once v w t same fit n out files P Q a b x y left right (rows, outcome, ends, said, (leaves, _))
       (others, other, ends', said', (leaves', _)) =
@@ -195,8 +236,8 @@ module _ (laws : ReplayLaws) where
       → ReplaysTrace v t n out (Some files) P a x left → ReplaysTrace w u n out (Some files) Q b y right → LeftAlike a b x y left right
   replays-once v w t u same trace fit n out files P Q a b x y left right replays replays' =
       leaves-once v w t same fit n out files P Q a b x y left right replays
-      (subst (λ (k : Trace). LeavesReplay w.design v.map k n out (Some files) Q b y right) (sym trace)
-      (subst (λ (k : Map). LeavesReplay w.design k u n out (Some files) Q b y right) (sym same.map) replays'))
+      (subst (λ (k : Trace). ReplaysTrace (with_map w v.map) k n out (Some files) Q b y right) (sym trace)
+      (subst (λ (k : Map). ReplaysTrace (with_map w k) u n out (Some files) Q b y right) (sym same.map) replays'))
 
   pub one_replay : (design m trace : List ℕ) (n : ℕ) (out : List ℕ) (files : Files) (P Q : Bool → Type 0) (a b : Status) (x y : List ℕ)
       (left right : Option Files) → Replays design m trace n out (Some files) (λ _. ⊥) P a x left

@@ -92,7 +92,7 @@ one-sample_said k t u (outcomes.Unstable channel cycle) a b x y v w =
 
 -- the replay of a map's design
 abbrev ReplayOn : Figures → Device → Map → Trace → Status → List ℕ → Type 0
-ReplayOn k v m t a x = IsSampleReplay k (record { design = v.design; order = v.order; map = m }) t a x
+ReplayOn k v m t a x = IsSampleReplay k (replays.with_map v m) t a x
 
 module _ (laws : ReplayLaws) (k : Figures) (design m bytes : List ℕ) where
   replay-once : (v w : Device) (t : Trace) → SameDevice v w → IsReplayableTexts design m bytes v t → (a b : Status) (x y : List ℕ)
@@ -108,9 +108,9 @@ module _ (laws : ReplayLaws) (k : Figures) (design m bytes : List ℕ) where
   one-samples_replay : OneBy Alike (SamplesReplay k design m bytes)
   one-samples_replay a b x y (inl u) (inl v) = replays.one-refused_replay laws design m bytes a b x y u v
   one-samples_replay a b x y (inl u) (inr (w, t, is, replayed)) =
-      absurd (replays.refused-apart laws design m bytes w t is.device is.encodes is.same is.no_reset a x u)
+      absurd (replays.refused-apart laws design m bytes w t is.device is.encodes is.same a x u)
   one-samples_replay a b x y (inr (w, t, is, replayed)) (inl v) =
-      absurd (replays.refused-apart laws design m bytes w t is.device is.encodes is.same is.no_reset b y v)
+      absurd (replays.refused-apart laws design m bytes w t is.device is.encodes is.same b y v)
   one-samples_replay a b x y (inr (v, t, is, replayed)) (inr (w, u, is', replayed')) =
       let same = same-device laws.devices design m v w is.device is'.device in
       let trace : t ≡ u = laws.reading bytes t u is.encodes is'.encodes in

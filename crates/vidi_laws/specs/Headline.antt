@@ -12,6 +12,7 @@ use Rattle.vidi_commands.specs.trace_model.declared.channel.Dir.TheVariants.{Inw
 use Rattle.vidi_commands.specs.trace_model.declared.packet.Packet.{Packet}
 use Rattle.vidi_commands.specs.trace_model.declared.row.Row.{Row}
 use Rattle.vidi_commands.specs.trace_model.declared.trace.Trace.{Trace}
+use Rattle.vidi_commands.specs.trace_model.Epoch.{epoch, resets}
 use Rattle.vidi_commands.specs.trace_model.Recording.{trace_of}
 use Rattle.vidi_commands.specs.trace_code.Encoding.{HasEncoding, encode, header_bytes}
 use Rattle.vidi_commands.specs.trace_code.Salvage.{front, LieWhole}
@@ -19,12 +20,11 @@ use Rattle.vidi_commands.specs.trace_compare.declared.report.Finding.{Finding}
 use Rattle.vidi_commands.specs.trace_compare.declared.report.What.{What}
 use Rattle.vidi_commands.specs.trace_compare.declared.report.What.TheVariants.{Differs, ExtraStart, ExtraEnd, EarlyStart, EarlyEnd, ExtraReset}
 use Rattle.vidi_commands.specs.trace_compare.Findings.{findings}
-use Rattle.vidi_commands.specs.run_model.Held.{held, waits}
 use Rattle.vidi_commands.specs.run_model.Laws.{AreInOrder, ContentsStay}
 use Rattle.vidi_commands.specs.run_model.Stretches.{and_stretch}
 use Rattle.vidi_commands.specs.replay_run.declared.outcome.ReplayOutcome.{ReplayOutcome}
 use Rattle.vidi_commands.specs.replay_run.declared.outcome.ReplayOutcome.TheVariants.{Ended, Short, Unstable}
-use Rattle.vidi_commands.specs.replay_run.Replaying.{GoesInNoCircle}
+use Rattle.vidi_commands.specs.replay_run.Replaying.{held_behind, waits_behind, ArePrefixes, GoesInNoCircle}
 use Rattle.vidi_commands.specs.chan_map.declared.pins.Map.{Map}
 use Rattle.vidi_commands.specs.shim_trees.Wrapped.{wrapped}
 use Rattle.vidi_commands.specs.trace_model.declared.packet.TheConstants.{MOST_CYCLES}
@@ -132,11 +132,21 @@ PrintedRunKeepsContents = (design map script : List ℕ) (b : Bench) → IsBench
     → (is : IsPlainRun b.device.design b.device.map (script_offer b.script) b.script.resets b.script.cycles run)
     → All (ContentsStay b.device.map.channels) (and_stretch is.past is.here)
 
--- where the replay is short, the lists name exactly what it holds back, with what that awaits, and what it waits for
-abbrev pub AreNamed : List Channel → List Packet → List Row → ReplayOutcome → Type 0
-AreNamed channels packets rows (Ended cycles) = Unit {0}
-AreNamed channels packets rows (Short helds events) = (helds ≡ held channels packets rows) × (events ≡ waits channels packets rows)
-AreNamed channels packets rows (Unstable channel cycle) = Unit {0}
+-- where the replay is short, the lists name exactly what it holds back of the last row's epoch and of the reset behind it, with what that
+-- awaits, and what it waits for
+abbrev pub AreNamed : List Channel → List Packet → List (List Row) → List Row → ReplayOutcome → Type 0
+AreNamed channels packets past here (Ended cycles) = Unit {0}
+AreNamed channels packets past here (Short helds events) =
+    (helds ≡ held_behind channels packets past here) × (events ≡ waits_behind channels packets past here)
+AreNamed channels packets past here (Unstable channel cycle) = Unit {0}
+
+-- *Order in the output*: events are paired by epoch, channel, kind and index. In each epoch each input start and output completion is a
+-- recorded one, and the completions before it cover its recorded clock. There are at most the recorded resets. The contents of each inward
+-- channel are a prefix of those recorded, over all epochs.
+pub record IsInOrderOf (channels : List Channel) (packets out : List Packet) : Type 0 where
+  pub few : resets out ≤ resets packets
+  pub order : (e : ℕ) → AreInOrder channels (epoch e packets) (epoch e out)
+  pub contents : ArePrefixes channels packets out
 
 -- a finding on a channel of this direction says of an event that the replayers control, or of a reset, that it is another one, or too much,
 -- or too early
@@ -153,23 +163,23 @@ abbrev pub KeepsOrder : List Channel → Finding → Type 0
 KeepsOrder channels finding =
     (x : Channel) → slice_get channels finding.channel ≡ Some x → breaks_order x.dir finding.what ≡ false
 
--- Rows of a replay of these packets. In their trace each input start and output completion is a recorded one, and the completions before it
--- cover its recorded clock; the contents of an inward channel are a prefix of those recorded. So no finding against the recorded packets breaks
--- the order. Contents stay until they are taken. What is held back and awaited is named exactly, and is in no circle. The trace has an
--- encoding.
-pub record IsFaithful (channels : List Channel) (packets : List Packet) (rows : List Row) (outcome : ReplayOutcome) : Type 0 where
-  pub order : AreInOrder channels packets (trace_of channels rows).packets
+-- Rows of a replay of these packets, in stretches from one reset to the next. Their trace is in the recorded order. So no finding against the
+-- recorded packets breaks it. Contents stay until they are taken. What is held back and awaited is named exactly, and is in no circle. The
+-- trace has an encoding.
+pub record IsFaithful (channels : List Channel) (packets : List Packet) (rows : List Row) (past : List (List Row)) (here : List Row)
+    (outcome : ReplayOutcome) : Type 0 where
+  pub order : IsInOrderOf channels packets (trace_of channels rows).packets
   pub unbroken : All (KeepsOrder channels) (findings (record { channels = channels; packets = packets }) (trace_of channels rows))
-  pub contents : ContentsStay channels rows
-  pub named : AreNamed channels packets rows outcome
-  pub free : GoesInNoCircle channels packets rows outcome
+  pub contents : All (ContentsStay channels) (and_stretch past here)
+  pub named : AreNamed channels packets past here outcome
+  pub free : GoesInNoCircle channels packets past here outcome
   pub encoded : HasEncoding (trace_of channels rows)
 
 -- whatever the accepted design, and whatever the trace of its channels, recorded or not
 abbrev pub ReplayIsFaithful : Type 0
 ReplayIsFaithful = (design map trace : List ℕ) (files : Option Files) (v : Device) (t : Trace)
     → IsReplayable design map trace files v t → (n : ℕ) → n ≤ MOST_CYCLES → (rows : List Row) (outcome : ReplayOutcome)
-    → IsTheReplay v t n rows outcome → IsFaithful v.map.channels t.packets rows outcome
+    → (is : IsTheReplay v t n rows outcome) → IsFaithful v.map.channels t.packets rows is.past is.here outcome
 
 -- what is read of the text that `wrap` writes, as `check` reads a design, is the wrapped tree; lines don't count
 abbrev pub WrappedIsReadBack : Type 0

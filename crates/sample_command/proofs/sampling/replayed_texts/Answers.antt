@@ -39,7 +39,6 @@ returns c =
         device = device;
         encodes = c.in_ok-trace.ensures.encodes;
         same = c.in_ok-trace.ensures.same;
-        no_reset = c.in_ok-trace.ensures.no_reset;
       },
       c.in_ok-answer.ensures,
     )
