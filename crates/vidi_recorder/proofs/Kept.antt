@@ -17,7 +17,8 @@ use Rattle.trace_code.specs.trace_model.declared.row.Row.{Row}
 use Rattle.trace_code.specs.trace_model.Channel.{content_bytes}
 use Rattle.trace_code.specs.trace_model.Epoch.{stretch}
 use Rattle.trace_code.specs.trace_model.Laws.{KeepsInFlight}
-use Rattle.trace_code.specs.trace_model.Recording.{after_gap, end_after, has_event, own_before, packet_of, packets_at, packets_from, reset_packet, row_does}
+use Rattle.trace_code.specs.trace_model.Recording.{after_gap, end_after, has_event, own_before, packet_of, packets_at, packets_from, reset_packet}
+use Rattle.trace_code.specs.trace_model.Recording.{row_does}
 use Rattle.trace_code.specs.trace_model.Packet.{count, does}
 use Rattle.trace_code.specs.trace_model.Stability.{IsUnstableAt}
 use Rattle.trace_code.specs.trace_model.Row.{completes, IsOver}
