@@ -1,8 +1,7 @@
 //! Replays, compared with the rows of the definitions.
 
 ghost use Rattle.std.specs.Prelude.{◌≡◌, ◌<◌, ◌≤◌, ◌^◌, IfSome, length};
-ghost use Rattle.replay_run.specs.Behind.{EncodesPlain};
-ghost use Rattle.replay_run.specs.trace_code.Encoding.{HasEncoding};
+ghost use Rattle.replay_run.specs.trace_code.Encoding.{Encodes, HasEncoding};
 ghost use Rattle.run_reference.specs.run_model.Building.{PortsAreNets};
 ghost use Rattle.run_reference.specs.run_model.MapOf.{IsMapOf};
 ghost use Rattle.run_reference.specs.trace_model.declared.packet.TheConstants.{MOST_CYCLES};
@@ -11,7 +10,7 @@ use crate::traces::trace_of;
 use crate::watched::Watched;
 use replay_run::chan_replayer::{ReplayMachines, ReplayShell};
 use replay_run::trace_code::decode;
-use replay_run::{ReplayOutcome, Replayed, has_reset, replay};
+use replay_run::{ReplayOutcome, Replayed, replay};
 use run_reference::chan_map::Map;
 use run_reference::run_model::Held;
 use run_reference::trace_model::{
@@ -23,16 +22,11 @@ use sample_designs::net_sim::Sim;
 use sample_designs::{Sample, Stage, sample_stage};
 use std::alloc::Global;
 
-/// The trace of these bytes, which has no reset.
-fn decoded(alloc: Global, bytes: &[u8]) -> Option<Trace>
-    ensures { IfSome result (λ t. EncodesPlain t bytes.now) }
+/// The trace of these bytes.
+pub(crate) fn decoded(alloc: Global, bytes: &[u8]) -> Option<Trace>
+    ensures { IfSome result (λ t. Encodes t bytes.now) }
 {
-    let trace = decode(alloc, bytes).ok()?;
-    if has_reset(trace.packets.as_slice()) {
-        None
-    } else {
-        Some(trace)
-    }
+    decode(alloc, bytes).ok()
 }
 
 /// The trace of the design's channels with these packets and their number.
@@ -67,7 +61,7 @@ pub(crate) fn rows_of(alloc: Global, sample: Sample, trace: &Trace, cycles: u32)
     rows_on(alloc, &mut stage.sim, &stage.map, trace, cycles)
 }
 
-fn more_if(count: u32, mask: u128, c: usize) -> u32 {
+pub(crate) fn more_if(count: u32, mask: u128, c: usize) -> u32 {
     if names(mask, c) {
         count.wrapping_add(1)
     } else {
@@ -76,7 +70,7 @@ fn more_if(count: u32, mask: u128, c: usize) -> u32 {
 }
 
 /// How many starts and completions of channel `c` are recorded.
-fn recorded(packets: &[Packet], c: usize) -> (u32, u32) {
+pub(crate) fn recorded(packets: &[Packet], c: usize) -> (u32, u32) {
     let mut starts = 0;
     let mut ends = 0;
     for packet in packets {
@@ -87,7 +81,7 @@ fn recorded(packets: &[Packet], c: usize) -> (u32, u32) {
 }
 
 /// How many of them the rows show.
-fn shown(rows: &[Row], c: usize) -> (u32, u32) {
+pub(crate) fn shown(rows: &[Row], c: usize) -> (u32, u32) {
     let mut starts = 0;
     let mut ends = 0;
     for row in rows {
@@ -129,14 +123,14 @@ fn unstable_at(channels: &Channels, rows: &[Row], k: usize) -> Option<usize> {
 
 /// How a replay ends, after so many rows.
 #[derive(Clone, Copy, Drop)]
-enum Stop {
+pub(crate) enum Stop {
     Ended { len: usize },
     Short { len: usize },
     Unstable { channel: usize, len: usize },
 }
 
 /// How the replay with these rows ends.
-fn stop_of(trace: &Trace, rows: &[Row]) -> Stop {
+pub(crate) fn stop_of(trace: &Trace, rows: &[Row]) -> Stop {
     for len in 0..rows.len() {
         if has_ended(trace, &rows[..len]) {
             return Stop::Ended { len };
@@ -232,12 +226,26 @@ fn is_packet_of(channels: &[Channel], packet: &Packet, row: &Row) -> bool {
     !packet.reset && events && has_contents(channels, packet, row)
 }
 
-/// Whether a trace is of these rows: one packet for each row with an event, behind as many rows as its gap since the one before.
+/// Whether a packet is a reset behind this gap.
+fn is_reset(packet: &Packet, gap: u32) -> bool {
+    packet.reset && packet.gap == gap && packet.starts == 0 && packet.ends == 0
+}
+
+/// Whether a trace is of these rows: a reset before each fresh row, and one packet for each row with an event, each behind as many rows as
+/// its gap since the one before.
 fn is_trace_of(trace: &Trace, rows: &[Row]) -> bool {
     let mut same = true;
     let mut left = trace.packets.as_slice();
     let mut gap: u32 = 0;
     for row in rows {
+        if row.fresh {
+            let Some((packet, behind)) = left.split_first() else {
+                return false;
+            };
+            same &= is_reset(packet, gap);
+            left = behind;
+            gap = 0;
+        }
         if row.starts == 0 && row.ends == 0 {
             gap = gap.wrapping_add(1);
             continue;
@@ -253,7 +261,7 @@ fn is_trace_of(trace: &Trace, rows: &[Row]) -> bool {
 }
 
 /// Whether the bytes are the trace of these rows.
-fn is_out(alloc: Global, trace: &Trace, rows: &[Row], out: &[u8]) -> Option<bool> {
+pub(crate) fn is_out(alloc: Global, trace: &Trace, rows: &[Row], out: &[u8]) -> Option<bool> {
     let shown = decoded(alloc, out)?;
     let same = same_channels(&shown.channels, &trace.channels).is_none();
     Some(same && is_trace_of(&shown, rows))
@@ -278,7 +286,7 @@ pub(crate) struct Seen {
 }
 
 /// What the replay of a trace on a shell answers, against these rows.
-#[tactic(auto, using(crate::proofs::Given::trace_given, crate::proofs::Given::plain_given))]
+#[tactic(auto, using(crate::proofs::Given::trace_given))]
 fn answer_of<S: ReplayShell>(
     alloc: Global,
     shell: &mut S,
@@ -290,7 +298,7 @@ fn answer_of<S: ReplayShell>(
 ) -> Option<Seen>
     requires mapped { S.map shell.old ≡ map.now }
     requires channels { map.now.channels ≡ trace.now.channels }
-    requires trace { EncodesPlain trace.now bytes.now }
+    requires trace { Encodes trace.now bytes.now }
     requires few { cycles ≤ MOST_CYCLES }
 {
     let mut shell = Watched::new(shell, rows);
@@ -314,7 +322,7 @@ fn answer_on(
     requires nets { PortsAreNets sim.design }
     requires mapped { IsMapOf sim.design map.now }
     requires channels { map.now.channels ≡ trace.now.channels }
-    requires trace { EncodesPlain trace.now bytes.now }
+    requires trace { Encodes trace.now bytes.now }
     requires few { cycles ≤ MOST_CYCLES }
 {
     let Ok(mut shell) = ReplayMachines::new(alloc, sim, map) else {
@@ -323,8 +331,8 @@ fn answer_on(
     answer_of(alloc, &mut shell, map, trace, bytes, cycles, rows)
 }
 
-/// The same on a design.
-fn answer_from(
+/// The same on a design: the rows are compared, and neither the end nor the trace.
+pub(crate) fn answer_from(
     alloc: Global,
     sample: Sample,
     trace: &Trace,
@@ -332,7 +340,7 @@ fn answer_from(
     cycles: u32,
     rows: &[Row],
 ) -> Option<Seen>
-    requires trace { EncodesPlain trace.now bytes.now }
+    requires trace { Encodes trace.now bytes.now }
     requires few { cycles ≤ MOST_CYCLES }
 {
     let Stage { sim, map } = sample_stage(alloc, sample, &trace.channels)?;
@@ -348,7 +356,7 @@ fn answer_with(
     cycles: u32,
     rows: &[Row],
 ) -> Option<Seen>
-    requires trace { EncodesPlain trace.now bytes.now }
+    requires trace { Encodes trace.now bytes.now }
     requires few { cycles ≤ MOST_CYCLES }
     requires rows { length rows.now < 2 ^ 32 }
 {
@@ -365,7 +373,7 @@ fn answer_in(
     bytes: &[u8],
     cycles: u32,
 ) -> Option<Seen>
-    requires trace { EncodesPlain trace.now bytes.now }
+    requires trace { Encodes trace.now bytes.now }
     requires few { cycles ≤ MOST_CYCLES }
 {
     let rows = rows_of(alloc, sample, trace, cycles)?;

@@ -12,6 +12,8 @@ mod reference_tests;
 #[cfg(test)]
 mod replayer_tests;
 #[cfg(test)]
+mod reset_tests;
+#[cfg(test)]
 mod trace_tests;
 #[cfg(test)]
 mod traces;

@@ -126,10 +126,8 @@ fn push_packet(out: &mut Vec<u8>, sample: Sample, starts: u8, ends: u8, state: u
     push_contents(out, sample, starts, state)
 }
 
-/// A trace of at most 12 packets of the design's channels, another for each number.
-pub(crate) fn drawn_trace(alloc: Global, sample: Sample, number: u64) -> Option<Vec<u8>> {
-    let mut out = Vec::new(alloc);
-    out.extend_from_slice(header(sample)).ok()?;
+/// Adds at most 12 packets of the design's channels, others for each number, and gives how many they are.
+fn push_drawn(out: &mut Vec<u8>, sample: Sample, number: u64) -> Option<u8> {
     let mut drawn = next(number);
     let mut flying = 0;
     let mut packets: u8 = 0;
@@ -137,10 +135,35 @@ pub(crate) fn drawn_trace(alloc: Global, sample: Sample, number: u64) -> Option<
         let starts = byte(drawn) & all(sample) & (255 ^ flying);
         drawn = next(drawn);
         let ends = byte(drawn) & (flying | starts);
-        drawn = push_packet(&mut out, sample, starts, ends, next(drawn))?;
+        drawn = push_packet(out, sample, starts, ends, next(drawn))?;
         packets = packets.wrapping_add(u8::from(starts | ends != 0));
         flying = (flying | starts) & (255 ^ ends);
     }
+    Some(packets)
+}
+
+/// A trace of at most 12 packets of the design's channels, another for each number.
+pub(crate) fn drawn_trace(alloc: Global, sample: Sample, number: u64) -> Option<Vec<u8>> {
+    let mut out = Vec::new(alloc);
+    out.extend_from_slice(header(sample)).ok()?;
+    let packets = push_drawn(&mut out, sample, number)?;
+    out.extend_from_slice(&[0, 0, 0, 0, packets]).ok()?;
+    Some(out)
+}
+
+/// A trace of two epochs, each as drawn for its own number, with a reset between them.
+pub(crate) fn drawn_epochs(
+    alloc: Global,
+    sample: Sample,
+    first: u64,
+    second: u64,
+) -> Option<Vec<u8>> {
+    let mut out = Vec::new(alloc);
+    out.extend_from_slice(header(sample)).ok()?;
+    let before = push_drawn(&mut out, sample, first)?;
+    out.extend_from_slice(&[2, 0, 0]).ok()?;
+    let behind = push_drawn(&mut out, sample, second)?;
+    let packets = before.wrapping_add(1).wrapping_add(behind);
     out.extend_from_slice(&[0, 0, 0, 0, packets]).ok()?;
     Some(out)
 }

@@ -20,7 +20,15 @@ fn is_at(rows: &[Row], at: usize, row: &Row) -> bool {
     }
 }
 
-/// A shell whose rows from a reset on are compared with given ones.
+/// Whether the row at this place is the first one behind a reset in mid-run.
+fn is_fresh_at(rows: &[Row], at: usize) -> bool {
+    match rows.get(at) {
+        Some(row) => row.fresh,
+        None => false,
+    }
+}
+
+/// A shell whose rows from a reset on are compared with given ones, over the resets in mid-run that these show.
 #[derive(Drop)]
 pub(crate) struct Watched<'a, S: ReplayShell> {
     shell: &'a mut S,
@@ -56,7 +64,9 @@ impl<'a, S: ReplayShell> ReplayShell for Watched<'a, S> {
 
     fn reset(&mut self) {
         self.shell.reset();
-        self.at = 0;
+        if !is_fresh_at(self.rows, self.at) {
+            self.at = 0;
+        }
     }
 
     fn drive(&mut self, feed: &Feed, row: &mut Row) {

@@ -21,7 +21,6 @@ use Rattle.vidi_commands.specs.report_text.declared.reason.Word.TheVariants as w
 use Rattle.vidi_commands.specs.vidi_bench.vidi_answer.declared.status.Status.{Status}
 use Rattle.vidi_commands.specs.vidi_bench.Reading.{IsRead}
 use Rattle.vidi_commands.specs.Said.{salvaged_line}
-use Rattle.vidi_commands.specs.run_commands.Records.{course_of}
 use Rattle.vidi_commands.specs.trace_commands.Traces.{trace_limit, IsHeaderless, IsWholeIn, Saves}
 use Rattle.vidi_laws.specs.Headline.{BrokenRecordingIsSalvaged, IsBrokenOff, KeepsWhole, SalvagedTraceIsReplayable}
 use Rattle.vidi_laws.proofs.Headline.{read-there, recorded-short, replayable-there, run-kept}

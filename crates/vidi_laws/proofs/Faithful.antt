@@ -1,5 +1,5 @@
 -- What holds of every replay, said of the three files.
-use Rattle.std.proofs.Common.{◌≡◌, ℕ, suc, ◌<◌, ◌≤◌, List, [], Some, get_or, length, slice_get, refl, sym, subst, ◌∙◌, arith, ⊎_elim}
+use Rattle.std.proofs.Common.{◌≡◌, ℕ, suc, ◌<◌, ◌≤◌, List, [], Some, get_or, slice_get, refl, sym, subst, ◌∙◌, arith, ⊎_elim}
 use Rattle.std.proofs.lemmas.Bool.{cases_lt}
 use Rattle.std.proofs.lemmas.List.{flat_map_more, length_push}
 use Rattle.std.proofs.lemmas.Option.{slice_get-get_or}
@@ -18,12 +18,11 @@ use Rattle.vidi_commands.specs.replay_run.declared.outcome.ReplayOutcome.{Replay
 use Rattle.vidi_commands.specs.replay_run.declared.outcome.ReplayOutcome.TheVariants.{Ended, Short, Unstable}
 use Rattle.vidi_commands.specs.replay_run.Epochs.{epochs}
 use Rattle.vidi_commands.specs.replay_run.Replaying.{ArePrefixes, EndsAs}
-use Rattle.vidi_commands.specs.replay_run.run_stage.Stretching.{all_rows}
 use Rattle.vidi_commands.proofs.replay_run_lemmas.Epochs.{epoch-past, epochs-long}
 use Rattle.vidi_commands.proofs.replay_run_lemmas.Prefix.{prefixes}
 use Rattle.vidi_commands.proofs.replay_run_lemmas.Stretched.{are-marked, ends-contents, ends-encoded, ends-free, ends-order, ends-played}
 use Rattle.vidi_laws.specs.Headline.{AreNamed, IsInOrderOf, ReplayIsFaithful}
-use Rattle.vidi_laws.proofs.Gaps.{order-bare, recorded-bare, trace-epochs, IsTraceOf}
+use Rattle.vidi_laws.proofs.Gaps.{order-bare, trace-epochs, IsTraceOf}
 use Rattle.vidi_laws.proofs.KeptOrder.{findings-keep}
 
 -- where nothing is recorded all is in order

@@ -1,6 +1,6 @@
 -- The laws of a script's run, said of the four files.
-use Rattle.std.proofs.Common.{◌≡◌, ◌≤◌, ℕ, true, List, [], ◌∷◌, ◌++◌, Option, None, Some, length, take, slice_get, refl, sym, subst, arith}
-use Rattle.std.specs.Prelude.{false, IsSomeAnd}
+use Rattle.std.proofs.Common.{◌≡◌, ◌≤◌, ℕ, List, ◌++◌, Option, Some, length, refl, sym, ap, subst, arith}
+use Rattle.std.specs.Prelude.{IsSomeAnd}
 use Rattle.std.specs.FinMap.{get}
 use Rattle.vidi_commands.specs.vidi_io.Shelf.{Files}
 use Rattle.vidi_commands.specs.trace_model.declared.row.Row.{Row}
@@ -14,7 +14,6 @@ use Rattle.vidi_commands.specs.env_script.declared.stalls.Stalls.{Stalls}
 use Rattle.vidi_commands.proofs.env_script_lemmas.Lasting.{script-lasts}
 use Rattle.vidi_commands.specs.bench_run.Plain.{spot_behind, IsPlainRun}
 use Rattle.vidi_commands.proofs.bench_run_lemmas.PlainLaws.{plain-keeps, plain-of}
-use Rattle.vidi_commands.specs.vidi_recorder.Course.{Course, IsTheRunOf}
 use Rattle.vidi_commands.proofs.vidi_recorder_lemmas.Kept.{drained-plain, no-hidden_gate, run-over}
 use Rattle.vidi_commands.proofs.vidi_recorder_lemmas.Runs.{run-long, run-of}
 use Rattle.vidi_commands.proofs.vidi_recorder_lemmas.ScriptKept.{script-kept, full-drains}

@@ -1,7 +1,7 @@
 -- What keeps the order of a trace, epoch by epoch, has no finding against it that breaks the order.
 use Rattle.std.proofs.Common.{◌≡◌, ℕ, zero, suc, ◌+◌, ◌<◌, ◌≤◌, Bool, true, false, cond, List, [], ◌∷◌, ◌++◌, Some, length, take, map}
 use Rattle.std.proofs.Common.{All, refl, sym, ap, subst, ◌∙◌, ⊎_elim, arith}
-use Rattle.std.specs.Prelude.{min, not, nat_eq, nat_lt, slice_get}
+use Rattle.std.specs.Prelude.{not, nat_eq, nat_lt, slice_get}
 use Rattle.std.specs.Cmp.Lexicographic.{other_text}
 use Rattle.std.specs.List.{enumerate_from, filter, flat_map, list_any, range_with_len, zip}
 use Rattle.std.proofs.lemmas.Bool.{cases_Bool, cases_lt, false≢true, le-ltb}

@@ -11,6 +11,8 @@ use Rattle.vidi_commands.specs.env_script.ScriptOffer.{script_offer}
 use Rattle.vidi_commands.proofs.env_script_lemmas.Lasting.{script-lasts}
 use Rattle.vidi_commands.specs.bench_run.Plain.{AreRunAllUp}
 use Rattle.vidi_commands.proofs.bench_run_lemmas.PlainLaws.{one-plain_run}
+use Rattle.vidi_commands.specs.replay_run.declared.outcome.ReplayOutcome.{ReplayOutcome}
+use Rattle.vidi_commands.specs.replay_run.Replaying.{EndsAs}
 use Rattle.vidi_commands.specs.replay_run.run_stage.Stretching.{all_rows}
 use Rattle.vidi_commands.proofs.replay_run_lemmas.Outcomes.{one-outcome}
 use Rattle.vidi_commands.proofs.vidi_recorder_lemmas.ScriptKept.{one-script_run}
@@ -61,7 +63,9 @@ pub one-replay_of_files : OneReplayOfFiles
 one-replay_of_files design m trace files v t is n =
     let one = one-outcome v.design v.map (device-ready is.design_text is.map_text v is.device) t.packets
     (fits t is.trace_bytes v.map.channels is.encodes is.same) n in (
-      ∥∥₁_map one.0 (λ x. (all_rows x.0 x.1, x.2, record { past = x.0; here = x.1; ends = x.3; rows_are = refl })),
+      ∥∥₁_map one.0 (λ (x : (past : List (List Row)) × (here : List Row) × (outcome : ReplayOutcome)
+          × EndsAs v.design v.map t.packets n past here outcome).
+          (all_rows x.0 x.1, x.2, record { past = x.0; here = x.1; ends = x.3; rows_are = refl })),
       λ a b i j x y.
           (let same = one.1 x.past y.past x.here y.here i j x.ends y.ends in
           (same-rows x.past y.past x.here y.here a b same.0 same.1 x.rows_are y.rows_are, same.2)),

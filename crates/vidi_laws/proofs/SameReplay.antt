@@ -23,7 +23,6 @@ use Rattle.vidi_commands.specs.replay_run.Epochs.{epochs}
 use Rattle.vidi_commands.specs.replay_run.Replaying.{EndsAs}
 use Rattle.vidi_commands.specs.replay_run.run_stage.Stretching.{all_rows}
 use Rattle.vidi_commands.specs.vidi_io.Shelf.{Files, holding}
-use Rattle.vidi_commands.specs.vidi_io.Writing.{IsWritten}
 use Rattle.vidi_commands.specs.report_text.Short.{short_lines}
 use Rattle.vidi_commands.specs.report_text.declared.reason.Word.TheVariants as words
 use Rattle.vidi_commands.specs.vidi_bench.declared.device.Device.{Device}
