@@ -12,7 +12,7 @@ use wave_text::{WaveNet, WaveNets};
 
 /// A text, then a name, then another text.
 fn joined(alloc: Global, front: &[u8], name: &[u8], end: &[u8]) -> Result<Name, Memory>
-    ensures { IfOk result (λ text. text ≡ front.now ++ name.now ++ end.now) }
+    ensures { IfOk result (λ text. text ≡ (front.now ++ name.now) ++ end.now) }
 {
     let mut text = Vec::from_slice(alloc, front)?;
     text.extend_from_slice(name)?;
@@ -23,7 +23,7 @@ fn joined(alloc: Global, front: &[u8], name: &[u8], end: &[u8]) -> Result<Name, 
 /// The path of instance `i`, each name with a dot behind it, from those of the instances before it.
 fn path_text(alloc: Global, paths: &[Name], i: usize, instance: &Instance) -> Result<Name, Memory>
     requires { 1 ≤ i → instance.now.parent < length paths.now }
-    ensures { IfOk result (λ text. text ≡ (if i == 0 then [] else list_of paths.now instance.now.parent ++ instance.now.name ++ 46 ∷ [])) }
+    ensures { IfOk result (λ text. text ≡ (if i == 0 then [] else (list_of paths.now instance.now.parent ++ instance.now.name) ++ 46 ∷ [])) }
 {
     if i == 0 {
         return Ok(Items::new(alloc));

@@ -97,19 +97,19 @@ fn mark_of(row: &Row) -> usize
 }
 
 /// Reads the numbers of all nets.
-fn read_numbers<S: Watched>(shell: &S, numbers: &mut [u128])
+fn read_numbers<S: Watched>(shell: &S, numbers: &mut Numbers)
     requires { length numbers.old ≡ length (S.design shell.now).nets }
     ensures long { length numbers.new ≡ length numbers.old }
     ensures value { length (S.numbers shell.now) ≡ length (S.design shell.now).nets → numbers.new ≡ S.numbers shell.now }
 {
     for n in 0..numbers.len() {
-        numbers[n] = shell.number(n);
+        numbers.set(n, shell.number(n));
     }
 }
 
 /// The numbers before those of a cycle, where there are some.
 fn before_of(cycle: u32, numbers: &[u128]) -> Option<&[u128]>
-    ensures { option_copied result.entry ≡ before_cycle cycle numbers.now }
+    ensures { option_copied result ≡ before_cycle cycle numbers.now }
 {
     if cycle == 0 { None } else { Some(numbers) }
 }
@@ -126,7 +126,7 @@ fn print_seen<S: Watched, P: Page>(shell: &S, nets: &WaveNets, cycle: u32, tools
     ensures rest { tools.new ≡ record tools.old { now = tools.new.now } }
     ensures long { length tools.new.now ≡ length tools.old.now }
 {
-    read_numbers(shell, tools.now.as_mut_slice());
+    read_numbers(shell, &mut tools.now);
     let before = before_of(cycle, tools.before.as_slice());
     print_row(
         page,
