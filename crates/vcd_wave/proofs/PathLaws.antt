@@ -1,13 +1,17 @@
 -- Paths of instances as texts, one after the other.
 use Rattle.std.proofs.Common.{◌≡◌, ℕ, zero, suc, ◌+◌, ◌<◌, ◌≤◌, ◌==◌, Bool, true, false, if◌then◌else◌, List, [], ◌∷◌, ◌++◌}
-use Rattle.std.proofs.Common.{append_assoc, length, length-append, get_or, ⊎_elim, refl, ap, sym, subst, ◌∙◌, arith}
+use Rattle.std.proofs.Common.{append_assoc, map, take, length, length-append, get_or, ⊎_elim, refl, ap, sym, subst, ◌∙◌, arith}
 use Rattle.std.proofs.lemmas.Bool.{cases_lt, eqb-true}
+use Rattle.std.proofs.lemmas.List.{map-append}
 use Rattle.net_design.specs.declared.design.Instance.{Instance}
+use Rattle.net_design.specs.declared.design.Net.{Net}
 use Rattle.net_design.specs.Names.{list_at, paths, AreAfterParents}
 use Rattle.net_design.proofs.LawfulCode.{slice_get-at}
 use Rattle.net_sim.specs.Names.{dotted}
 use Rattle.net_sim.proofs.NameLaws.{top_path, path_text}
-use Rattle.vcd_wave.specs.Nets.{list_of, ArePathTexts}
+use Rattle.run_stage.proofs.trace_model_lemmas.CountingLemmas.{take-suc_get}
+use Rattle.wave_text.specs.declared.wave.WaveNet.{WaveNet}
+use Rattle.vcd_wave.specs.Nets.{list_of, wave_net, ArePathTexts}
 
 pub list_of-at : (xs : List (List ℕ)) (i : ℕ) (x : List ℕ) → i < length xs → x ≡ get_or xs i x → list_of xs i ≡ x
 list_of-at [] i x l e = absurd (omega (arith, l))
@@ -54,3 +58,23 @@ more_paths instances texts new i r are is e = subst (ArePathTexts instances (i +
       ap (list_of (texts ++ r ∷ [])) same ∙ end texts r ∙ is ∙ ap (λ j. dotted (list_at (paths instances) j)) (sym last))
       (cases_lt k i);
 })
+
+-- ---- nets
+pub one_net : (instances : List Instance) (texts : List (List ℕ)) (n : Net) (path : List ℕ) (x : WaveNet)
+    → ArePathTexts instances (length instances) texts → n.instance < length instances → path ≡ get_or texts n.instance path
+    → x ≡ record { name = path ++ n.name; width = n.width } → x ≡ wave_net instances n
+one_net instances texts n path x are l at is =
+    let long = are.long in
+    let same : path ≡ dotted (list_at (paths instances) n.instance) =
+    sym (list_of-at texts n.instance path (omega (arith, l, long)) at) ∙ are.each n.instance l in
+    is ∙ ap (λ (p : List ℕ). record { name = p ++ n.name; width = n.width }) same
+
+pub more_nets : (instances : List Instance) (nets : List Net) (made new : List WaveNet) (i : ℕ) (n : Net) (x : WaveNet)
+    → i < length nets → n ≡ get_or nets i n → made ≡ map (wave_net instances) (take i nets) → x ≡ wave_net instances n
+    → new ≡ made ++ x ∷ [] → new ≡ map (wave_net instances) (take (i + 1) nets)
+more_nets instances nets made new i n x l at so_far is e =
+    let one : i + 1 ≡ suc i = omega arith in
+    let next : take (i + 1) nets ≡ take i nets ++ n ∷ [] =
+    ap (λ k. take k nets) one ∙ take-suc_get nets i n (slice_get-at nets i n l (sym at)) in
+    e ∙ ap (λ ms. ms ++ x ∷ []) so_far ∙ ap (λ y. map (wave_net instances) (take i nets) ++ y ∷ []) is
+    ∙ sym (map-append (wave_net instances) (take i nets) (n ∷ [])) ∙ ap (map (wave_net instances)) (sym next)

@@ -43,6 +43,8 @@ pub(crate) struct Course<'c> {
     /// The times of the resets: each comes before the row with that number, or before a later one.
     pub resets: &'c Numbers,
     pub cycles: u32,
+    /// The wave's top name.
+    pub top: &'c [u8],
 }
 
 /// Resets the shell where a reset is due, and says whether it did: then the last row is a silent one. Before the first cycle none comes.
@@ -195,7 +197,8 @@ pub(crate) fn wave_rows<S: Watched, E: Env, P: Page>(
     requires resets { tools.old.resets ≡ 0 }
     ensures wave { (grid : List (List ℕ)) × P.went page.old page.new (text_of (row_lines course.now.nets.now 0 None grid))
         × IsGridOfRun (S.design shell.old) course.now.map.now (E.offer (E.plan env.old)) course.now.resets.now course.now.cycles result grid }
-    ensures stands { (rows : List OneRow) × E.stands_for env.new rows }
+    ensures plan { E.plan env.new ≡ E.plan env.old }
+    ensures channels { E.channels env.new ≡ E.channels env.old }
 {
     for cycle in 0..course.cycles {
         let fresh = turn(shell, course.resets, cycle, tools);

@@ -4,7 +4,6 @@ ghost use Rattle.std.specs.Prelude.{◌≡◌, ◌≤◌, IfOk, length};
 ghost use Rattle.bench_run.specs.env_script.Offered.{offers_on, AllFit};
 ghost use Rattle.bench_run.specs.run_model.Played.{all_up};
 ghost use Rattle.bench_run.specs.trace_model.declared.packet.TheConstants.{MOST_CHANNELS};
-ghost use Rattle.run_stage.specs.Playing.{AreOver};
 
 use bench_run::env_script::{Env, gather, offers_over};
 use bench_run::trace_model::{Channels, all_up};
@@ -49,18 +48,14 @@ fn numbers_for(alloc: Global, nets: usize) -> Result<Numbers, Memory>
 }
 
 impl Tools {
+    ghost use Rattle.vcd_wave.specs.Tools.{AreTools};
+
     /// Those of an environment over these channels, for so many nets, before the first cycle. Only this call takes memory.
     pub(crate) fn new<E: Env>(alloc: Global, env: &E, channels: &Channels, nets: usize) -> Result<Tools, Memory>
         requires channels { E.channels env.now ≡ channels.now }
         requires few { length channels.now ≤ MOST_CHANNELS }
         requires fits { AllFit channels.now (E.current env.now) }
-        ensures offers { IfOk result (λ tools. tools.given.offers ≡ offers_on channels.now (E.current env.now)) }
-        ensures gates { IfOk result (λ tools. tools.given.gates ≡ all_up channels.now) }
-        ensures rows { IfOk result (λ tools. AreOver channels.now tools.two) }
-        ensures silent { IfOk result (λ tools. tools.two.last.valids ≡ 0) }
-        ensures now { IfOk result (λ tools. length tools.now ≡ nets) }
-        ensures before { IfOk result (λ tools. length tools.before ≡ nets) }
-        ensures resets { IfOk result (λ tools. tools.resets ≡ 0) }
+        ensures { IfOk result (AreTools channels.now (E.current env.now) nets) }
     {
         let given = given_now(alloc, env, channels)?;
         let two = TwoRows::new(alloc, channels)?;
