@@ -20,7 +20,7 @@ use Rattle.env_script.specs.trace_model.declared.channel.Dir.{Dir}
 use Rattle.env_script.specs.trace_model.declared.channel.Dir.TheVariants.{Inward, Outward}
 use Rattle.env_script.specs.trace_model.declared.row.Row.{Row}
 use Rattle.env_script.specs.trace_model.Packet.{widths_of}
-use Rattle.env_script.specs.trace_model.Row.{content_at}
+use Rattle.env_script.specs.trace_model.Row.{completes, content_at}
 use Rattle.env_script.specs.trace_model.vidi_bits.Number.{has}
 use Rattle.axi_memory.specs.declared.served.Ports.{Ports}
 use Rattle.axi_memory.specs.declared.served.Served.{Served}
@@ -105,11 +105,11 @@ AreTurns turn = (t : Turn) → turn ≡ Some t → IsTurn t
 
 -- ---- a row takes what is offered alone
 pub record Obeys (p : Served) (s : Standing) (row : Row) : Type 0 where
-  pub aw : has row.ends p.ports.writes.aw.channel ≡ true → s.free ≡ true
-  pub w : has row.ends p.ports.writes.w ≡ true → s.wants ≡ true
-  pub b : has row.ends p.ports.writes.b ≡ true → s.answers ≡ true
-  pub ar : has row.ends p.ports.reads.ar.channel ≡ true → is_none s.turn ≡ true
-  pub r : has row.ends p.ports.reads.r ≡ true → is_some s.turn ≡ true
+  pub aw : completes row p.ports.writes.aw.channel ≡ true → s.free ≡ true
+  pub w : completes row p.ports.writes.w ≡ true → s.wants ≡ true
+  pub b : completes row p.ports.writes.b ≡ true → s.answers ≡ true
+  pub ar : completes row p.ports.reads.ar.channel ≡ true → is_none s.turn ≡ true
+  pub r : completes row p.ports.reads.r ≡ true → is_some s.turn ≡ true
 
 -- ---- how a row moves it
 abbrev pub first_turn : Served → AddressPorts → Row → Turn

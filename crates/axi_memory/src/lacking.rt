@@ -1,7 +1,6 @@
 //! What an AXI file lacks for a memory.
 
-ghost use Rattle.std.specs.Prelude.{◌≡◌};
-ghost use Rattle.std.specs.Option.{option_copied};
+ghost use Rattle.std.specs.Prelude.{◌≡◌, slice_get};
 ghost use Rattle.std.specs.List.{list_all, range_with_len};
 ghost use Rattle.env_script.specs.trace_model.vidi_bits.Findings.{first};
 ghost use Rattle.axi_memory.specs.Lack.{comes_in, is_named, is_read, is_written, lacks, names_all, takes_writes};
@@ -52,10 +51,11 @@ fn names_all(axi: &Axi, channels: usize) -> bool
     axi.writes.is_some() && axi.reads.is_some() && are_named(axi, channels)
 }
 
-fn comes_in(channel: Option<&Channel>) -> bool
-    ensures { result ≡ comes_in (option_copied channel) }
+/// Whether a channel is there and leads into the design.
+fn comes_in(channels: &[Channel], channel: usize) -> bool
+    ensures { result ≡ comes_in (slice_get channels.now channel) }
 {
-    match channel {
+    match channels.get(channel) {
         Some(x) => matches!(x.dir, Dir::Inward),
         None => false,
     }
@@ -66,7 +66,7 @@ fn takes_writes(channels: &[Channel], writes: Option<Writes>) -> bool
     ensures { result ≡ takes_writes channels.now writes }
 {
     match writes {
-        Some(ws) => comes_in(channels.get(ws.aw.channel)),
+        Some(ws) => comes_in(channels, ws.aw.channel),
         None => false,
     }
 }

@@ -41,7 +41,7 @@ pub struct MemoryEnv<'a> {
     shown: u128,
     /// How many rows were committed.
     cycle: u32,
-    ghost served: { AreServed channels.now ports },
+    ghost wired: { AreServed channels.now ports },
     ghost kept: { OffersAsKept (served channels.now ports) } by { Prim.hlevel props },
     ghost lasting: { AreLasting channels.now (memory_offer (served channels.now ports)) } by { Prim.hlevel (props, fit_prop) },
     ghost writes: { AreTurns writing },

@@ -1,6 +1,6 @@
 //! The beats of bursts, and their addresses (AMBA AXI4 IHI 0022, A3.4.1).
 
-ghost use Rattle.std.specs.Prelude.{◌≡◌, ◌+◌, ◌≤◌};
+ghost use Rattle.std.specs.Prelude.{◌≡◌, ◌*◌};
 ghost use Rattle.axi_burst.specs.Passes.{IsAddress};
 ghost use Rattle.axi_memory.specs.Memory.{address_of, stepped, wrapped};
 
