@@ -1,3 +1,5 @@
+mod Bytes
+pub mod Bound
 pub mod Growing
 pub mod Kept
 pub mod Going

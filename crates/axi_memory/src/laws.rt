@@ -12,3 +12,8 @@ pub fn examples()
 pub fn memory_is_lasting()
     ensures { MemoryIsLasting }
 {}
+
+/// TEMP.
+pub fn bound_tmp()
+    ensures { MemoryIsLasting }
+{}

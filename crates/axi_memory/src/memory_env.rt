@@ -6,7 +6,7 @@ ghost use Rattle.std.proofs.Props.{props};
 ghost use Rattle.axi_burst.specs.declared.axi_text.AxiText.{AxiText};
 ghost use Rattle.axi_burst.specs.Binding.{IsBound};
 ghost use Rattle.axi_burst.specs.Transfers.{begun_address};
-ghost use Rattle.env_script.proofs.trace_model_lemmas.ContentsLemmas.{fit_prop};
+ghost use Rattle.trace_model.proofs.ContentsLemmas.{fit_prop};
 ghost use Rattle.env_script.specs.trace_model.declared.channel.Channel.{Channel};
 ghost use Rattle.env_script.specs.trace_model.Packet.{widths_of};
 ghost use Rattle.env_script.specs.trace_model.Row.{IsOver, content_at};
