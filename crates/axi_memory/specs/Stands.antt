@@ -103,6 +103,14 @@ pub record IsTurn (t : Turn) : Type 0 where
 abbrev pub AreTurns : Option Turn → Type 0
 AreTurns turn = (t : Turn) → turn ≡ Some t → IsTurn t
 
+-- a beat of a burst that may be asked for
+pub record IsBeat (t : Turn) : Type 0 where
+  pub ask : IsAddress t.ask
+  pub within : t.beat < t.ask.beats
+
+abbrev pub AreBeats : Option Turn → Type 0
+AreBeats turn = (t : Turn) → turn ≡ Some t → IsBeat t
+
 -- ---- a row takes what is offered alone
 pub record Obeys (p : Served) (s : Standing) (row : Row) : Type 0 where
   pub aw : completes row p.ports.writes.aw.channel ≡ true → s.free ≡ true

@@ -5,17 +5,19 @@ ghost use Rattle.std.specs.Prelude.{◌≡◌, ◌≤◌, ◌<◌, ◌^◌, ◌%
 ghost use Rattle.std.proofs.Props.{props};
 ghost use Rattle.axi_burst.specs.declared.axi_text.AxiText.{AxiText};
 ghost use Rattle.axi_burst.specs.Binding.{IsBound};
+ghost use Rattle.axi_burst.specs.Passes.{IsAddress};
 ghost use Rattle.axi_burst.specs.Transfers.{begun_address};
 ghost use Rattle.trace_model.proofs.ContentsLemmas.{fit_prop};
 ghost use Rattle.env_script.specs.trace_model.declared.channel.Channel.{Channel};
+ghost use Rattle.env_script.specs.trace_model.Channel.{IsTable};
 ghost use Rattle.env_script.specs.trace_model.Packet.{widths_of};
 ghost use Rattle.env_script.specs.trace_model.Row.{IsOver, content_at};
 ghost use Rattle.env_script.specs.trace_model.vidi_bits.Findings.{first};
 ghost use Rattle.env_script.specs.Offered.{AreLasting};
 ghost use Rattle.axi_memory.specs.Lack.{lacks};
 ghost use Rattle.axi_memory.specs.Memory.{is_place, memory_offer, offer_of, read_number, role_at, word_of, word_under};
-ghost use Rattle.axi_memory.specs.Stands.{AreServed, AreTurns, IsTurn, OffersAsKept, StandsFor, answers, has_address, id_of, later, moved, next_read};
-ghost use Rattle.axi_memory.specs.Stands.{next_words, next_write, number_of, ports_of, served, standing, wants};
+ghost use Rattle.axi_memory.specs.Stands.{AreBeats, AreServed, AreTurns, IsBeat, OffersAsKept, StandsFor, answers, has_address, id_of, later, moved, next_read};
+ghost use Rattle.axi_memory.specs.Stands.{next_shown, next_words, next_write, number_of, ports_of, served, standing, wants};
 
 use crate::content::{content_at, number_at};
 use crate::served::{Ports, Served};
@@ -45,7 +47,7 @@ pub struct MemoryEnv<'a> {
     ghost kept: { OffersAsKept (served channels.now ports) } by { Prim.hlevel props },
     ghost lasting: { AreLasting channels.now (memory_offer (served channels.now ports)) } by { Prim.hlevel (props, fit_prop) },
     ghost writes: { AreTurns writing },
-    ghost reads: { AreTurns reading },
+    ghost reads: { AreBeats reading },
 }
 
 /// What channel of the port a channel is.
@@ -118,7 +120,7 @@ fn response(ports: &Ports, writing: &Option<Turn>, port: usize) -> u128
 
 /// The number of a port of the read beat.
 fn read_number(ports: &Ports, turn: &Turn, shown: u128, port: usize) -> u128
-    requires { turn.now.beat < turn.now.ask.beats }
+    requires { IsBeat turn.now }
     ensures { (channels : List Channel) → result ≡ read_number (served channels ports.now) (Some turn.now) shown port }
 {
     if ports.places.rdata == port {
@@ -177,7 +179,7 @@ fn moved(turn: Turn) -> Turn
 
 /// The beat behind the one that is offered, where its burst has more.
 fn later(turn: Option<Turn>) -> Option<Turn>
-    requires { AreTurns turn }
+    requires { AreBeats turn }
     ensures { result ≡ later turn }
 {
     let turn = turn?;
@@ -213,7 +215,7 @@ fn next_write(channels: &[Channel], ports: &Ports, turn: Option<Turn>, row: &Row
 fn next_read(channels: &[Channel], ports: &Ports, turn: Option<Turn>, row: &Row) -> Option<Turn>
     requires over { IsOver channels.now row.now }
     requires served { AreServed channels.now ports.now }
-    requires turn { AreTurns turn }
+    requires turn { AreBeats turn }
     ensures { result ≡ next_read (served channels.now ports.now) row.now turn }
 {
     if names(row.ends, ports.reads.ar.channel) {
@@ -228,7 +230,7 @@ fn next_read(channels: &[Channel], ports: &Ports, turn: Option<Turn>, row: &Row)
 /// The number of a beat's word.
 fn word_of(ports: &Ports, turn: &Turn) -> u128
     requires beat { 1 ≤ ports.now.beat }
-    requires turn { IsTurn turn.now }
+    requires ask { IsAddress turn.now.ask }
     ensures { (channels : List Channel) → result ≡ word_of (served channels ports.now) turn.now }
 {
     turn.address() / u128::from(ports.beat)
@@ -255,13 +257,25 @@ fn store(words: &mut Numbers, channels: &[Channel], ports: &Ports, turn: &Option
 /// The word of a beat, 0 where there is none.
 fn word_under(words: &Numbers, ports: &Ports, turn: &Option<Turn>) -> u128
     requires beat { 1 ≤ ports.now.beat }
-    requires turn { AreTurns turn.now }
+    requires turn { AreBeats turn.now }
     ensures { (channels : List Channel) → result ≡ word_under (served channels ports.now) words.now turn.now }
 {
     match turn {
         Some(turn) => word_at(words, word_of(ports, turn)),
         None => 0,
     }
+}
+
+/// The word that is shown behind a row: it is read where a read beat comes to be offered, and then stays.
+fn next_shown(words: &Numbers, ports: &Ports, turn: &Option<Turn>, row: &Row, shown: u128) -> u128
+    requires beat { 1 ≤ ports.now.beat }
+    requires turn { AreBeats turn.now }
+    ensures { (channels : List Channel) → result ≡ next_shown (served channels ports.now) row.now turn.now words.now shown }
+{
+    if names(row.ends, ports.reads.ar.channel) || names(row.ends, ports.reads.r) {
+        return word_under(words, ports, turn);
+    }
+    shown
 }
 
 /// The memory's size and port, where a file lacks nothing of them.
@@ -280,6 +294,7 @@ fn ports_of(axi: &Axi) -> Option<Ports>
 impl<'a> MemoryEnv<'a> {
     /// A memory of zeros behind a port that was bound to these channels. It takes memory for its words alone.
     pub fn new(alloc: Global, axi: &Axi, channels: &'a Channels) -> Result<MemoryEnv<'a>, Memory>
+        requires table { IsTable channels.now }
         requires bound { (text : AxiText) × IsBound text channels.now axi.now }
         requires whole { first (lacks axi.now channels.now) ≡ None }
         ensures plan { IfOk result (λ env. ports_of axi.now ≡ Some env.ports) }
@@ -375,9 +390,13 @@ impl<'a> Env for MemoryEnv<'a> {
         );
         self.writing = next_write(channels, &self.ports, self.writing, row);
         self.reading = next_read(channels, &self.ports, self.reading, row);
-        if names(row.ends, self.ports.reads.ar.channel) || names(row.ends, self.ports.reads.r) {
-            self.shown = word_under(&self.words, &self.ports, &self.reading);
-        }
+        self.shown = next_shown(
+            &self.words,
+            &self.ports,
+            &self.reading,
+            row,
+            self.shown,
+        );
         self.cycle += 1;
     }
 }

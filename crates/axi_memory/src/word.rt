@@ -1,10 +1,23 @@
 //! The bytes of a word.
 
-ghost use Rattle.std.specs.Prelude.{◌≡◌, ◌≤◌, slice_index, slice_set};
+ghost use Rattle.std.specs.Prelude.{◌≡◌, ◌*◌, ◌<◌, ◌≤◌, slice_index, slice_set, if◌then◌else◌};
+ghost use Rattle.trace_model.specs.vidi_bits.Number.{has, part_of};
 ghost use Rattle.axi_memory.specs.Memory.{merged};
 
 use env_script::trace_model::names;
 use env_script::trace_model::vidi_bits::{Numbers, slice};
+
+/// Byte k of a word: that of the new number where its strobe bit is 1, else of the old one.
+fn byte(old: u128, new: u128, strobe: u128, k: u32) -> u128
+    requires { k < 16 }
+    ensures { result ≡ part_of (if has strobe k then new else old) (8 * k) 8 }
+{
+    if names(strobe, k as usize) {
+        slice(new, 8 * k, 8)
+    } else {
+        slice(old, 8 * k, 8)
+    }
+}
 
 /// A word of so many bytes: those of the new number whose strobe bit is 1, the others of the old one.
 fn merged(bytes: u32, old: u128, new: u128, strobe: u128) -> u128
@@ -13,8 +26,7 @@ fn merged(bytes: u32, old: u128, new: u128, strobe: u128) -> u128
 {
     let mut word = 0;
     for k in 0..bytes {
-        let from = if names(strobe, k as usize) { new } else { old };
-        word += slice(from, 8 * k, 8) << (8 * k);
+        word += byte(old, new, strobe, k) << (8 * k);
     }
     word
 }

@@ -11,5 +11,5 @@ pub returns : goal.returns
 returns c =
     let last : c.loop-c.c ≡ c.args.channel = omega arith in
     let there = c.loop-c.invariant ∙ ap (λ k. drop (first_of c.args.channels.now k) c.args.contents.now) last in
-    c.split_content.ensures.front ∙ ap (take (length c.index-channels-channel.result.widths)) there
+    c.split_content-2.ensures.front ∙ ap (take (length c.index-channels-channel.result.widths)) there
     ∙ sym (content-read c.args.channels.now c.args.contents.now c.args.channel c.index-channels-channel.result c.requires c.index-channels-channel.is)
