@@ -114,7 +114,7 @@ module _ (channels : List Channel) (ports : Ports) (is : AreServed channels port
   some-role : (c : ℕ) (own : Role) → c ≡ channel_of ports own → Is c (Some own)
   some-role c own e role at = let same : own ≡ role = cc in e ∙ ap (channel_of ports) same
 
-  role-is : (c : ℕ) → Is c (role_at ports c)
+  pub role-is : (c : ℕ) → Is c (role_at ports c)
   role-is c =
       cond_both (eqb c aw) (Some WriteAddress) _ (Is c) (λ t. some-role c WriteAddress (eqb-true c aw t))
       (λ n. cond_both (eqb c w) (Some WriteData) _ (Is c) (λ t. some-role c WriteData (eqb-true c w t))

@@ -12,8 +12,3 @@ pub fn examples()
 pub fn memory_is_lasting()
     ensures { MemoryIsLasting }
 {}
-
-/// TEMP.
-pub fn bound_tmp()
-    ensures { MemoryIsLasting }
-{}

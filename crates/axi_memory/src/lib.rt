@@ -16,7 +16,7 @@ mod word;
 pub use axi_burst;
 pub use env_script;
 pub use lacking::lack;
-pub use laws::{bound_tmp, examples, memory_is_lasting};
+pub use laws::{examples, memory_is_lasting};
 pub use memory_env::MemoryEnv;
 pub use reason::Lack;
 pub use served::{Ports, Served};

@@ -16,7 +16,7 @@ ghost use Rattle.env_script.specs.trace_model.vidi_bits.Findings.{first};
 ghost use Rattle.env_script.specs.Offered.{AreLasting};
 ghost use Rattle.axi_memory.specs.Lack.{lacks};
 ghost use Rattle.axi_memory.specs.Memory.{is_place, memory_offer, offer_of, read_number, role_at, word_of, word_under};
-ghost use Rattle.axi_memory.specs.Stands.{AreBeats, AreServed, AreTurns, IsBeat, OffersAsKept, StandsFor, answers, has_address, id_of, later, moved, next_read};
+ghost use Rattle.axi_memory.specs.Stands.{AreBeats, AreServed, AreTurns, OffersAsKept, StandsFor, answers, has_address, id_of, later, moved, next_read};
 ghost use Rattle.axi_memory.specs.Stands.{next_shown, next_words, next_write, number_of, ports_of, served, standing, wants};
 
 use crate::content::{content_at, number_at};
@@ -107,22 +107,25 @@ fn is_place(place: Option<usize>, port: usize) -> bool
     }
 }
 
-/// The number of a port of the response.
+/// The number of a port of the response, 0 while none is given.
 fn response(ports: &Ports, writing: &Option<Turn>, port: usize) -> u128
-    ensures { result ≡ (if is_place ports.now.writes.id port then id_of writing.now else 0) }
+    ensures { result ≡ (if answers writing.now then (if is_place ports.now.writes.id port then id_of writing.now else 0) else 0) }
 {
-    if is_place(ports.writes.id, port) {
+    if answers(writing) && is_place(ports.writes.id, port) {
         id_of(writing)
     } else {
         0
     }
 }
 
-/// The number of a port of the read beat.
-fn read_number(ports: &Ports, turn: &Turn, shown: u128, port: usize) -> u128
-    requires { IsBeat turn.now }
-    ensures { (channels : List Channel) → result ≡ read_number (served channels ports.now) (Some turn.now) shown port }
+/// The number of a port of the read beat, 0 where there is none.
+fn read_number(ports: &Ports, turn: &Option<Turn>, shown: u128, port: usize) -> u128
+    requires { AreBeats turn.now }
+    ensures { (channels : List Channel) → result ≡ read_number (served channels ports.now) turn.now shown port }
 {
+    let Some(turn) = turn else {
+        return 0;
+    };
     if ports.places.rdata == port {
         shown
     } else if is_place(ports.reads.id, port) {
@@ -322,13 +325,9 @@ impl<'a> MemoryEnv<'a> {
         ensures { result ≡ number_of (served self.now.channels.now self.now.ports) (standing self.now.writing self.now.reading self.now.shown)
             (role_at self.now.ports channel) port }
     {
-        match (role_at(&self.ports, channel), &self.reading) {
-            (Some(Role::WriteResponse), _) if answers(&self.writing) => {
-                response(&self.ports, &self.writing, port)
-            }
-            (Some(Role::ReadData), Some(turn)) => {
-                read_number(&self.ports, turn, self.shown, port)
-            }
+        match role_at(&self.ports, channel) {
+            Some(Role::WriteResponse) => response(&self.ports, &self.writing, port),
+            Some(Role::ReadData) => read_number(&self.ports, &self.reading, self.shown, port),
             _ => 0,
         }
     }
