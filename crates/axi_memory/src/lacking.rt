@@ -37,12 +37,7 @@ fn is_named(axi: &Axi, channel: usize) -> bool
 fn are_named(axi: &Axi, channels: usize) -> bool
     ensures { result ≡ list_all (is_named axi.now) (range_with_len 0 channels) }
 {
-    for c in 0..channels {
-        if !is_named(axi, c) {
-            return false;
-        }
-    }
-    true
+    (0..channels).all(|c| is_named(axi, c))
 }
 
 fn names_all(axi: &Axi, channels: usize) -> bool
