@@ -71,7 +71,7 @@ module _ (beat : ℕ) (channels : List Channel) (lines : List AxiLine) (none : p
       let same : x ≡ l = same_Some x l at in
       let fits = line_fits beat channels lines (take n lines) x.entry in
       let lawful : fits ≡ true = not-false fits (told_none (not fits) (e.Port x.line)
-          (nil_left (told_if (not fits) (e.Port x.line)) (faults_from beat channels lines (n + 1) rest) h)) in
+      (nil_left (told_if (not fits) (e.Port x.line)) (faults_from beat channels lines (n + 1) rest) h)) in
       let sum : n + 0 ≡ n = omega arith in
       subst (λ k. Fits k l) (sym sum) (subst (Fits n) same lawful)
   fits-from n (x ∷ rest) h (suc i) l at =
@@ -175,7 +175,7 @@ module _ (beat : ℕ) (channels : List Channel) (lines : List AxiLine) (none : p
   pub row-of : (role : Role) (d : ℕ) (is : IsOf role d) → IsRow role is.i is.name d
   row-of role d is =
       let fit : line_fits beat channels lines (take is.i lines) (E.Channel role is.name is.places) ≡ true =
-          subst (λ x. line_fits beat channels lines (take is.i lines) x ≡ true) is.says (fits is.i is.line is.at) in
+      subst (λ x. line_fits beat channels lines (take is.i lines) x ≡ true) is.says (fits is.i is.line is.at) in
       let row = right_of (not (is_named (take is.i lines) is.name)) (row_fits (first_side channels lines) role is.places (channel_at channels is.name)) fit in
       let fresh = left_of (not (is_named (take is.i lines) is.name)) (row_fits (first_side channels lines) role is.places (channel_at channels is.name)) fit in
       let at : channel_at channels is.name ≡ slice_get channels d = ap (λ o. option_and_then (λ c. slice_get channels c) o) is.named in
@@ -438,7 +438,7 @@ module _ (text : AxiText) (channels : List Channel) (axi : Axi) (ports : Ports) 
       let rports : AreReads channels (Some ports.reads) = subst (AreReads channels) parts.2 (bound-reads channels text axi bound) in
       let beat : ports.beat ≡ text.beat = sym parts.0 ∙ bound-beat channels text axi bound in
       let (numbers, fit) = some-of (λ (d : DataPorts). (ps : List ℕ) × (data_fits text.beat channels text.lines ps ≡ true)) ends.places ports.places
-          places ofs.served in
+      places ofs.served in
       let small = data-small text.beat channels text.lines bound.fits table.each numbers fit in record {
         aw = outward-at _ x x_at (now true (is_inward x.dir) x_side);
         w = outward-at _ xw w_at (now true (is_inward xw.dir) w_side);

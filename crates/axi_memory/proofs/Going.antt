@@ -45,40 +45,40 @@ module _ (asks asks' : List Address) (ws ws' bs bs' : ℕ) (new : Address) where
   writes-later None true aw w ea ew eb ob oa ow is = absurd (let z : false ≡ true = ob refl in cc)
   writes-later None false aw true ea ew eb ob oa ow is = absurd (let z : false ≡ true = ow refl in cc)
   writes-later None false true false ea ew eb ob oa ow (answered, beats) = (
-      asks,
-      ea,
-      omega (arith, eb, answered),
-      omega (arith, ew, beats),
-      omega arith,
-    )
+    asks,
+    ea,
+    omega (arith, eb, answered),
+    omega (arith, ew, beats),
+    omega arith,
+  )
   writes-later None false false false ea ew eb ob oa ow (answered, beats) =
       let same = ea ∙ append-none asks in (
-      omega (arith, eb, answered, ap length same),
-      omega (arith, ew, beats, ap (λ xs. length (turns xs)) same),
-    )
+        omega (arith, eb, answered, ap length same),
+        omega (arith, ew, beats, ap (λ xs. length (turns xs)) same),
+      )
   writes-later (Some t) b true w ea ew eb ob oa ow is = absurd (let z : false ≡ true = oa refl in cc)
   writes-later (Some t) true false true ea ew eb ob oa ow is = absurd (apart t (ow refl) (ob refl))
   writes-later (Some t) true false false ea ew eb ob oa ow (before, is, answered, beats, within) =
       let same = ea ∙ append-none asks ∙ is in
       let last = leb-true t.ask.beats t.beat (ob refl) in (
-      omega (arith, eb, answered, ap length same, length-append before (t.ask ∷ [])),
-      omega (arith, ew, beats, within, last, ap (λ xs. length (turns xs)) same, length-beats before t.ask),
-    )
+        omega (arith, eb, answered, ap length same, length-append before (t.ask ∷ [])),
+        omega (arith, ew, beats, within, last, ap (λ xs. length (turns xs)) same, length-beats before t.ask),
+      )
   writes-later (Some t) false false true ea ew eb ob oa ow (before, is, answered, beats, within) =
       let more = ltb-true t.beat t.ask.beats (ow refl) in (
-      before,
-      ea ∙ append-none asks ∙ is,
-      omega (arith, eb, answered),
-      omega (arith, ew, beats),
-      omega (arith, more),
-    )
+        before,
+        ea ∙ append-none asks ∙ is,
+        omega (arith, eb, answered),
+        omega (arith, ew, beats),
+        omega (arith, more),
+      )
   writes-later (Some t) false false false ea ew eb ob oa ow (before, is, answered, beats, within) = (
-      before,
-      ea ∙ append-none asks ∙ is,
-      omega (arith, eb, answered),
-      omega (arith, ew, beats),
-      within,
-    )
+    before,
+    ea ∙ append-none asks ∙ is,
+    omega (arith, eb, answered),
+    omega (arith, ew, beats),
+    within,
+  )
 
 -- ---- reads
 abbrev read_by : Bool → Bool → Turn → Option Turn → Option Turn
@@ -125,26 +125,26 @@ module _ (p : Served) (rows : List Row) (row : Row) where
   words-later None true words bs e ow is same = absurd (let z : false ≡ true = ow refl in cc)
   words-later (Some t) true words bs e ow (before, is, answered, beats, within) same =
       let at : slice_get (turns (write_asks p rows)) (done p p.ports.writes.w rows) ≡ Some t =
-          ap (λ xs. slice_get (turns xs) (done p p.ports.writes.w rows)) is ∙ ap (slice_get (turns (before ++ t.ask ∷ []))) beats
-          ∙ beat-at before t (ltb-true t.beat t.ask.beats (ow refl)) in
+      ap (λ xs. slice_get (turns xs) (done p p.ports.writes.w rows)) is ∙ ap (slice_get (turns (before ++ t.ask ∷ []))) beats
+      ∙ beat-at before t (ltb-true t.beat t.ask.beats (ow refl)) in
       ap (λ ws. written p ws (content_at p.channels row.contents p.ports.writes.w, t)) same ∙ sym (memory-grown p rows row t e at)
 
   -- ---- since when a beat is shown
   since-here : shows p row ≡ true → shown_since p more ≡ length more
   since-here h =
       let back : position_or_len (shows p) (reverse more) ≡ 0 =
-          ap (position_or_len (shows p)) (reverse-append rows (row ∷ []))
-          ∙ cond-false (not (shows p row)) (1 + position_or_len (shows p) (reverse rows)) 0 (not_from_true (shows p row) h) in
+      ap (position_or_len (shows p)) (reverse-append rows (row ∷ []))
+      ∙ cond-false (not (shows p row)) (1 + position_or_len (shows p) (reverse rows)) 0 (not_from_true (shows p row) h) in
       let z : length more - position_or_len (shows p) (reverse more) ≡ length more = omega (arith, back) in z
 
   pub since-before : shows p row ≡ false → shown_since p more ≡ shown_since p rows
   since-before h =
       let back : position_or_len (shows p) (reverse more) ≡ 1 + position_or_len (shows p) (reverse rows) =
-          ap (position_or_len (shows p)) (reverse-append rows (row ∷ []))
-          ∙ cond-true (not (shows p row)) (1 + position_or_len (shows p) (reverse rows)) 0 (not_from_false (shows p row) h) in
+      ap (position_or_len (shows p)) (reverse-append rows (row ∷ []))
+      ∙ cond-true (not (shows p row)) (1 + position_or_len (shows p) (reverse rows)) 0 (not_from_false (shows p row) h) in
       let long = length-append rows (row ∷ []) in
       let z : length more - position_or_len (shows p) (reverse more) ≡ length rows - position_or_len (shows p) (reverse rows)
-          = omega (arith, back, long) in z
+      = omega (arith, back, long) in z
 
   pub front-same : shows p row ≡ false → take (shown_since p more) more ≡ take (shown_since p rows) rows
   front-same h =
@@ -172,12 +172,16 @@ module _ (p : Served) (rows : List Row) (row : Row) where
       (obeys : Obeys p (standing writing reading shown) row) (st : StandsFor p writing reading shown words cycle rows) where
     abbrev hb : Bool
     hb = has row.ends p.ports.writes.b
+
     abbrev haw : Bool
     haw = has row.ends p.ports.writes.aw.channel
+
     abbrev hw : Bool
     hw = has row.ends p.ports.writes.w
+
     abbrev har : Bool
     har = has row.ends p.ports.reads.ar.channel
+
     abbrev hr : Bool
     hr = has row.ends p.ports.reads.r
 

@@ -71,14 +71,19 @@ is-there Outward (Some x) h = (x, refl, has-outward x h)
 module _ (channels : List Channel) (ports : Ports) (is : AreServed channels ports) where
   abbrev p : Served
   p = served channels ports
+
   abbrev aw : ℕ
   aw = ports.writes.aw.channel
+
   abbrev w : ℕ
   w = ports.writes.w
+
   abbrev b : ℕ
   b = ports.writes.b
+
   abbrev ar : ℕ
   ar = ports.reads.ar.channel
+
   abbrev r : ℕ
   r = ports.reads.r
 
@@ -208,14 +213,14 @@ module _ (channels : List Channel) (ports : Ports) (is : AreServed channels port
       let no : completes row aw ≡ false = shut (completes row aw) (eqb aws bs) o.aw not_free in
       let asks = asks-none p rows row ports.writes.aw no in
       let late : leb total (done p w more) ≡ true =
-          le-leb total (done p w more) (let k = leb-true total ws parts.1 in let g = grown rows row w in omega (arith, k, g)) in
+      le-leb total (done p w more) (let k = leb-true total ws parts.1 in let g = grown rows row w in omega (arith, k, g)) in
       let still : (standing_after p more).answers ≡ true =
-          ap (λ n. ltb (done p b more) n && leb (write_beats p more) (done p w more)) (done-none p rows row aw no)
-          ∙ ap (λ n. ltb n aws && leb (write_beats p more) (done p w more)) (done-none p rows row b unended)
-          ∙ ap (λ xs. ltb bs aws && leb (length (turns xs)) (done p w more)) asks
-          ∙ and_from (ltb bs aws) (leb total (done p w more)) parts.0 late in
+      ap (λ n. ltb (done p b more) n && leb (write_beats p more) (done p w more)) (done-none p rows row aw no)
+      ∙ ap (λ n. ltb n aws && leb (write_beats p more) (done p w more)) (done-none p rows row b unended)
+      ∙ ap (λ xs. ltb bs aws && leb (length (turns xs)) (done p w more)) asks
+      ∙ and_from (ltb bs aws) (leb total (done p w more)) parts.0 late in
       let id : (standing_after p more).id ≡ (standing_after p rows).id =
-          ap (λ xs. id_under (slice_get xs (done p b more))) asks ∙ ap (λ n. id_under (slice_get (write_asks p rows) n)) (done-none p rows row b unended) in
+      ap (λ xs. id_under (slice_get xs (done p b more))) asks ∙ ap (λ n. id_under (slice_get (write_asks p rows) n)) (done-none p rows row b unended) in
       ap (λ v. gives v (content channels b (response p (standing_after p more)))) (still ∙ sym up)
       ∙ ap (λ n. gives (standing_after p rows).answers (content channels b (λ k. cond (is_place ports.writes.id k) n 0))) id
 
@@ -233,8 +238,8 @@ module _ (channels : List Channel) (ports : Ports) (is : AreServed channels port
       let none : is_none (read_turn p rows) ≡ false = some-none (read_turn p rows) up in
       let no : completes row ar ≡ false = shut (completes row ar) (is_none (read_turn p rows)) o.ar none in
       let turn : read_turn p more ≡ read_turn p rows =
-          ap (λ xs. slice_get (turns xs) (done p r more)) (asks-none p rows row ports.reads.ar no)
-          ∙ ap (slice_get (turns (read_asks p rows))) (done-none p rows row r unended) in
+      ap (λ xs. slice_get (turns xs) (done p r more)) (asks-none p rows row ports.reads.ar no)
+      ∙ ap (slice_get (turns (read_asks p rows))) (done-none p rows row r unended) in
       let quiet : shows p row ≡ false = or_from (completes row ar) (completes row r) no unended in
       let words = ap (memory_after p) (front-same p rows row quiet) in
       ap (λ t. offer_r-of t (word_under p (memory_after p (take (shown_since p more) more)) t)) turn

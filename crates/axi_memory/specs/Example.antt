@@ -5,7 +5,7 @@ use Rattle.axi_burst.specs.declared.transfers.Address.{Address}
 use Rattle.env_script.specs.trace_model.declared.channel.Channel.{Channel}
 use Rattle.env_script.specs.trace_model.declared.channel.Dir.TheVariants.{Inward, Outward}
 use Rattle.env_script.specs.trace_model.declared.row.Row.{Row}
-use Rattle.env_script.specs.Offer.{nothing}
+use Rattle.env_script.specs.Offer.{Offer, nothing}
 use Rattle.axi_memory.specs.declared.served.Served.{Served}
 use Rattle.axi_memory.specs.Memory.{address_of, gives, memory_after, memory_offer, merged, shown_since, takes}
 
@@ -44,6 +44,58 @@ beside = row 1 1 1 1 (8 ∷ 0 ∷ 0 ∷ 0 ∷ 0 ∷ []) ∷ row 8 10 8 8 (0 ∷ 
 abbrev pub at_once : List Row
 at_once = row 1 1 1 1 (8 ∷ 0 ∷ 0 ∷ 0 ∷ 0 ∷ []) ∷ row 10 10 10 10 (0 ∷ 7 ∷ 15 ∷ 8 ∷ 0 ∷ []) ∷ []
 
+-- ---- a port with all words; the ID of `b` has 2 bits
+abbrev pub wide : List Channel
+wide = record { dir = Outward; name = codes "aw"; widths = 32 ∷ 8 ∷ 3 ∷ 2 ∷ 4 ∷ [] } ∷ record { dir = Outward; name = codes "w"; widths = 32 ∷ 4 ∷ 1 ∷ [] }
+    ∷ record { dir = Inward; name = codes "b"; widths = 2 ∷ 2 ∷ [] } ∷ record { dir = Outward; name = codes "ar"; widths = 32 ∷ 8 ∷ 3 ∷ 2 ∷ 4 ∷ [] }
+    ∷ record { dir = Inward; name = codes "r"; widths = 32 ∷ 1 ∷ 4 ∷ 2 ∷ [] } ∷ []
+
+abbrev pub whole : Served
+whole = record {
+  channels = wide;
+  ports = record {
+    beat = 4;
+    words = 4;
+    writes = record {
+      aw = record { channel = 0; id = Some 4; addr = 0; len = Some 1; size = Some 2; burst = Some 3 };
+      w = 1;
+      last = Some 2;
+      b = 2;
+      id = Some 1;
+    };
+    reads = record { ar = record { channel = 3; id = Some 4; addr = 0; len = Some 1; size = Some 2; burst = Some 3 }; r = 4; id = Some 2; last = Some 1 };
+    places = record { wdata = 0; wstrb = 1; rdata = 0 };
+  };
+}
+
+-- the contents of `aw`, `w`, `b`, `ar` and `r`
+abbrev pub shown : List ℕ → List ℕ → List ℕ → List ℕ
+shown aw w ar = aw ++ (w ++ (0 ∷ 0 ∷ []) ++ (ar ++ (0 ∷ 0 ∷ 0 ∷ 0 ∷ [])))
+
+abbrev pub no_ask : List ℕ
+no_ask = 0 ∷ 0 ∷ 0 ∷ 0 ∷ 0 ∷ []
+
+abbrev pub no_beat : List ℕ
+no_beat = 0 ∷ 0 ∷ 0 ∷ []
+
+abbrev pub plain : ℕ → List ℕ → Row
+plain channel contents = row channel channel channel channel contents
+
+-- a row in which the gate of `w` is shut, so that its beat doesn't come
+abbrev pub shut : List ℕ → Row
+shut contents = record { fresh = false; gates = 29; valids = 2; readies = 2; contents = contents; starts = 0; ends = 0 }
+
+-- two beats are written from byte 4 on, with ID 13: 0x11111111 whole, then the middle bytes of 0xaabbccdd; then three are read from there, with
+-- ID 6, and one past the end
+abbrev pub bursts : List Row
+bursts = plain 1 (shown (4 ∷ 1 ∷ 2 ∷ 1 ∷ 13 ∷ []) no_beat no_ask) ∷ plain 2 (shown no_ask (286331153 ∷ 15 ∷ 0 ∷ []) no_ask)
+    ∷ shut (shown no_ask (2864434397 ∷ 6 ∷ 1 ∷ []) no_ask) ∷ plain 2 (shown no_ask (2864434397 ∷ 6 ∷ 1 ∷ []) no_ask) ∷ plain 4 (shown no_ask no_beat no_ask)
+    ∷ plain 8 (shown no_ask no_beat (4 ∷ 2 ∷ 2 ∷ 1 ∷ 6 ∷ [])) ∷ plain 16 (shown no_ask no_beat no_ask) ∷ plain 16 (shown no_ask no_beat no_ask)
+    ∷ plain 16 (shown no_ask no_beat no_ask) ∷ plain 8 (shown no_ask no_beat (16 ∷ 0 ∷ 2 ∷ 1 ∷ 1 ∷ [])) ∷ []
+
+abbrev pub at_row : ℕ → ℕ → Offer
+at_row t c = memory_offer whole (take t bursts) c
+
 -- three beats of 4 bytes from 0x1006 on; four beats from 0x102c on
 abbrev pub burst : ℕ → ℕ → ℕ → Address
 burst addr beats kind = record { id = 0; addr = addr; beats = beats; size = 4; burst = kind; at = 0 }
@@ -69,6 +121,22 @@ pub record Examples : Type 0 where
   -- what was written behind the offer isn't shown, what came in its row is
   pub early : memory_offer mgr beside 4 ≡ gives true (0 ∷ [])
   pub same_row : memory_offer mgr at_once 4 ≡ gives true (7 ∷ [])
+  -- the second beat isn't taken while its gate is shut
+  pub one_beat : at_row 2 1 ≡ takes true
+  pub no_answer : at_row 2 2 ≡ nothing
+  pub waits : at_row 3 1 ≡ takes true
+  pub still_none : at_row 3 2 ≡ nothing
+  pub all_beats : at_row 4 1 ≡ takes false
+  -- ID 13 in 2 bits
+  pub answer : at_row 4 2 ≡ gives true (0 ∷ 1 ∷ [])
+  pub free : at_row 5 0 ≡ takes true
+  pub first_read : at_row 6 4 ≡ gives true (286331153 ∷ 0 ∷ 6 ∷ 0 ∷ [])
+  pub second_read : at_row 7 4 ≡ gives true (12307456 ∷ 0 ∷ 6 ∷ 0 ∷ [])
+  pub busy : at_row 7 3 ≡ takes false
+  pub last_read : at_row 8 4 ≡ gives true (0 ∷ 1 ∷ 6 ∷ 0 ∷ [])
+  pub all_read : at_row 9 4 ≡ nothing
+  pub next_read : at_row 9 3 ≡ takes true
+  pub past : at_row 10 4 ≡ gives true (0 ∷ 1 ∷ 1 ∷ 0 ∷ [])
   pub fixed : addresses (burst 4102 3 0) ≡ 4102 ∷ 4102 ∷ 4102 ∷ []
   pub stepping : addresses (burst 4102 3 1) ≡ 4102 ∷ 4104 ∷ 4108 ∷ []
   pub reserved : addresses (burst 4102 3 3) ≡ 4102 ∷ 4104 ∷ 4108 ∷ []

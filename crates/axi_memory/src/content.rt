@@ -6,7 +6,11 @@ ghost use Rattle.env_script.specs.trace_model.Row.{content_at};
 use env_script::trace_model::{Channel, split_content};
 
 /// The numbers of a channel among the contents of all channels: they stand behind those of the channels below it.
-pub(crate) fn content_at<'a>(channels: &[Channel], contents: &'a [u128], channel: usize) -> &'a [u128]
+pub(crate) fn content_at<'a>(
+    channels: &[Channel],
+    contents: &'a [u128],
+    channel: usize,
+) -> &'a [u128]
     requires { channel < length channels.now }
     ensures { result.now ≡ content_at channels.now contents.now channel }
 {

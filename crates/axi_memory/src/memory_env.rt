@@ -303,7 +303,7 @@ impl<'a> MemoryEnv<'a> {
         ensures plan { IfOk result (λ env. ports_of axi.now ≡ Some env.ports) }
         ensures channels { IfOk result (λ env. env.channels.now ≡ channels.now) }
         ensures committed { IfOk result (λ env. env.cycle ≡ 0) }
-        ensures rows { IfOk result (λ env. StandsFor (served channels.now env.ports) env.writing env.reading env.shown env.words env.cycle []) }
+        ensures rows { IfOk result (λ env. StandsFor (served env.channels.now env.ports) env.writing env.reading env.shown env.words env.cycle []) }
     {
         let Some(ports) = ports_of(axi) else {
             unreachable!()
@@ -380,22 +380,10 @@ impl<'a> Env for MemoryEnv<'a> {
 
     fn commit(&mut self, row: &Row) {
         let channels = self.channels.as_slice();
-        store(
-            &mut self.words,
-            channels,
-            &self.ports,
-            &self.writing,
-            row,
-        );
+        store(&mut self.words, channels, &self.ports, &self.writing, row);
         self.writing = next_write(channels, &self.ports, self.writing, row);
         self.reading = next_read(channels, &self.ports, self.reading, row);
-        self.shown = next_shown(
-            &self.words,
-            &self.ports,
-            &self.reading,
-            row,
-            self.shown,
-        );
+        self.shown = next_shown(&self.words, &self.ports, &self.reading, row, self.shown);
         self.cycle += 1;
     }
 }

@@ -1,0 +1,5 @@
+//! Tests of `axi_memory`, which stand apart so that it is proved without them.
+#![tactic(auto)]
+
+#[cfg(test)]
+mod lack_tests;
