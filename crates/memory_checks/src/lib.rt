@@ -3,3 +3,5 @@
 
 #[cfg(test)]
 mod lack_tests;
+#[cfg(test)]
+mod serve_tests;
