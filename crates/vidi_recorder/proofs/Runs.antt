@@ -13,8 +13,6 @@ use Rattle.trace_code.specs.trace_model.Recording.{end_after, end_of, packets_at
 use Rattle.trace_code.specs.trace_model.Row.{IsOver}
 use Rattle.trace_code.specs.Encoding.{encode, end_mark, header_bytes, packet_bytes, rows_bytes}
 use Rattle.trace_code.proofs.RowsBytes.{encode-rows}
-use Rattle.net_design.specs.declared.design.Design.{Design}
-use Rattle.net_design.specs.declared.values.Values.{Values}
 use Rattle.net_design.specs.Lawful.{IsLawful}
 use Rattle.env_script.specs.run_model.Laws.{IsReady, OffersFit, OneOfLength, OneThatEnds}
 use Rattle.env_script.specs.run_model.Played.{AreStable}
@@ -31,7 +29,7 @@ use Rattle.run_stage.proofs.Stretching.{all-same}
 use Rattle.vidi_recorder.specs.Course.{Course, course, gates_behind, turns_of, AreRunOf, AreTheRunOf, IsRunOf, IsTheRunOf}
 use Rattle.vidi_recorder.specs.Laws.{OneRecordedRun}
 use Rattle.vidi_recorder.specs.Recording.{IsFrontOfTheRun}
-use Rattle.vidi_recorder.specs.Standing.{Reached, bytes_so_far}
+use Rattle.vidi_recorder.specs.Standing.{bytes_so_far}
 use Rattle.vidi_recorder.proofs.Gated.{gates-fixed}
 use Rattle.vidi_recorder.proofs.Going.{bytes_behind, rows-more}
 
@@ -64,14 +62,6 @@ as-run w past here run = record { stretches = and_stretch past here; rows_are = 
 pub run-of : (w : Course) (rows : List Row) (stop : Option ℕ) → IsTheRunOf w rows stop → IsRunOf w rows
 run-of w rows stop x = subst (IsRunOf w) x.rows_are (as-run w x.past x.here
     (the-run_in w.design w.bound w.offers (gates_behind w.bound.channels w.plan) (turns_of w) w.cycles x.past x.here stop x.run).0)
-
--- where a shell stands behind rows, they are a run's
-pub reached-run : (w : Course) (runs : Design → Values → Option Row → Type 0) (rows : List Row) → Reached w runs rows → IsRunOf w rows
-reached-run w runs rows reached = subst (IsRunOf w) reached.rows_are (as-run w reached.past reached.here reached.run)
-
--- the run of which no row is unstable has all cycles
-pub whole-long : (w : Course) (rows : List Row) → IsTheRunOf w rows None → length rows ≡ w.cycles
-whole-long w rows the = ap length (sym the.rows_are) ∙ the.run.3
 
 pub is-ready : (w : Course) → IsLawful w.design → IsMapped w.design w.bound → IsReady w.design w.bound
 is-ready w lawful ready = record { lawful = lawful; one_map = ready.one_map; mapped = ready.mapped }
