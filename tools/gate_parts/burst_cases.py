@@ -166,8 +166,9 @@ FILES = [
         ("beat 4\nar ar none 0 none none none\n", "A1 line 3"), ("beat 4\nr r none none\n\n", "A1 line 4"),
         ("beat 4\naw aw 4 0 1 2 3\nb b 1\n", "A1 line 4"), ("beat 4\nar ar none none none none none\nr r none none\n", "A1 line 2"),
         ("beat 4\nar ar 4 0 1 2\nr r none none\n", "A1 line 2"), ("beat 4\nar ar 4 0 1 2 x\nr r none none\n", "A1 line 2"),
-        ("beat 4\nar ar 4 0 1 2 3\nr r 2 1\nr r 2 1\n", "A1 line 4"), ("beat 4\nmemory 16\nar ar 4 0 1 2 3\nr r 2 1\n", "A1 line 2"),
-        ("beat 4\ndata 0 1 0\nar ar 4 0 1 2 3\nr r 2 1\n", "A1 line 2")]),
+        ("beat 4\nar ar 4 0 1 2 3\nr r 2 1\nr r 2 1\n", "A1 line 4"), ("beat 4\nmemory 0\nar ar 4 0 1 2 3\nr r 2 1\n", "A1 line 2"),
+        ("beat 4\ndata 0 1 0\nar ar 4 0 1 2 3\nr r 2 1\n", "A1 line 2"), ("beat 4\nmemory 65537\nar ar 4 0 1 2 3\nr r 2 1\n", "A1 line 2"),
+        ("beat 4\ndata 0 1 0\naw\nw\nb\nar\nr\n", "A1 line 3"), ("beat 4\ndata 0 none 0\naw\nw\nb\nar\nr\n", "A1 line 2")]),
     ("A2: what fits the channels", [
         ("beat 4\nar a 4 0 1 2 3\nr r 2 1\n", "A2 port line 2"), ("beat 4\nr r 2 1\n\nar ar 4 5 1 2 3\n", "A2 port line 4"),
         ("beat 4\nar ar 4 0 1 2 0\nr r 2 1\n", "A2 port line 2"), ("beat 4\nar ar 4 0 2 2 3\nr r 2 1\n", "A2 port line 2"),

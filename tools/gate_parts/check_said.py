@@ -43,8 +43,6 @@ SAID = [  # what is written to which file, the command, and the sentence
      "cut.trace is whole up to byte 18 of 20: vidi salvage cut.trace OUT writes what is whole"),
     ({"other.trace": (None, "VIDITRC2\1\0\1a\1\4\0\0\0\0\0")}, "replay design.v map other.trace 9 out",
      "other.trace has other channels from number 0 on: map has in a with 1 contents; other.trace has in a 4"),
-    ({"reset.trace": (None, "VIDITRC2\2\0\1a\1\x08\1\1b\1\x08\1\0\0\1\1\5\2\0\0\0\0\0\0\2")}, "replay design.v map reset.trace 9 out",
-     "in reset.trace the design was reset in packet 1, and this command takes no trace with a reset"),
     ({}, "run design.v map .", ". can't be read: it is a folder"),
     ({}, "record design.v map script stalls .", ". wasn't written: it is a folder"),
     ({}, "run design.v map none", "none can't be read: there is no such file"),
@@ -55,6 +53,7 @@ SAID = [  # what is written to which file, the command, and the sentence
     ({}, "record design.v map script stalls none/out", "none/out wasn't written: there is no folder {folder}/none")]
 
 
+TRACE = "VIDITRC2\2\0\1a\1\x08\1\1b\1\x08"
 # The same of commands that come later: the command, what is written to which file, its words, and the sentence.
 LATER = [
     ("bursts", {"axi": (None, "beat 3\n")}, "bursts head.trace axi",
@@ -68,11 +67,12 @@ LATER = [
      "axi line 3, `r b none 0`: port 0 of b has 8 bits, and LAST has 1"),
     ("bursts", {"axi": (None, "beat 4\nar a none 0 none none none\nr a none none\n")}, "bursts head.trace axi",
      "axi line 3, `r a none none`: a or one of its ports is named twice, or goes the other way: aw, w and ar one way, b and r the other"),
+    ("bursts", {"reset.trace": (None, TRACE + "\1\0\0\1\1\5\2\0\0\0\0\0\0\2"), "axi": (None, "beat 4\n")}, "bursts reset.trace axi",
+     "in reset.trace the design was reset in packet 1, and this command takes no trace with a reset"),
     ("bursts", {"axi": (None, "beat 4\nar a none 0 none none none\nr b none none\n")}, "bursts short.trace axi",
      "short.trace breaks rule 4 of AXI4's bursts at transaction 0 of b, counted from 0: vidi-tools explain --axi says why"),
     ("move", {}, "move short.trace b 0 before b 1 out", "short.trace hasn't so many completions of that channel: they count from 0, over the whole trace"),
     ("move", {}, "move short.trace b 0 before b 0 out", "both are one completion of short.trace: name another one")]
-TRACE = "VIDITRC2\2\0\1a\1\x08\1\1b\1\x08"
 
 
 def check_say_later(checker):

@@ -28,7 +28,7 @@ TOOLS = tool_kit.HERE
 EXAMPLES = os.path.join(TOOLS, "..", "examples")
 CASES = os.path.join(TOOLS, "cases")
 PROGRAMS = ("vidi-tools", "gate", "make")
-FOUND = ["arbiter", "axi_ram", "axi_regs", "cpu", "crc32", "credit", "fifo", "width"]
+FOUND = ["arbiter", "axi_ram", "axi_regs", "cpu", "crc32", "credit", "fifo", "frames", "width"]
 # Texts that can't be lowered: the name of the top, the text, and what lower says.
 REFUSED = [
     ("two", "module two(input a, input b, output reg x, output reg y);\nalways @(posedge a) x <= !x;\nalways @(posedge b) y <= !y;\n"

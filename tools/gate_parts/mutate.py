@@ -43,20 +43,21 @@ TRACE = rb"old trace|bad trace at N|too long, limit 134217728"
 REFUSED = {
     "check": {"design": DESIGN}, "run": {"design": DESIGN, "map": MAP, "script": SCRIPT},
     "record": {"design": DESIGN, "map": MAP, "script": SCRIPT, "stalls": STALLS},
-    "replay": {"design": DESIGN, "map": MAP, "trace": TRACE + rb"|other channels at N|reset in packet N"}, "dump": {"trace": TRACE},
+    "replay": {"design": DESIGN, "map": MAP, "trace": TRACE + rb"|other channels at N"}, "dump": {"trace": TRACE},
     "compare": {"trace": TRACE, "other": TRACE + rb"|other channels at N"}, "salvage": {"trace": rb"bad trace at 0|too long, limit 134217728"},
     "migrate": {"trace": rb"bad trace at N|too long, limit 67108864"},
     "wrap": {"design": DESIGN + rb"|reserved X|wrapped has EN|wrapped text too long", "map": MAP},
 }
 FINDINGS = rb"(?:(?:epoch N|differs CH start N|(?:missing|extra) (?:CH (?:start|end)|reset) N|early CH (?:start|end) N count N)\n)+diverged\n"
-EVENTS = rb"(?:N start CH(?: N)*\n|N end CH\n)*"
+EVENTS = rb"(?:N reset\n|N start CH(?: N)*\n|N end CH\n)*"
 UNSTABLE = rb"vidi: unstable CH cycle N\n"
 SAID = {
     ("check", 0): rb"modules N items N\ninstances N nets N drivers N blocks N words N\n",
     ("run", 0): EVENTS + rb"cycles N\n", ("run", 5): EVENTS + UNSTABLE,
     ("record", 0): rb"recorded N cycles N packets\n", ("record", 5): UNSTABLE,
     ("replay", 0): rb"replayed N cycles, no divergence\n", ("replay", 5): UNSTABLE, ("replay", 7): FINDINGS,
-    ("replay", 6): rb"short after N cycles\n(?:held CH (?:start|end) N\n(?:awaits CH have N need N\n)+)*(?:waits CH (?:start|end) N\n)+",
+    ("replay", 6): rb"short after N cycles\n(?:epoch N\n)?(?:held (?:CH (?:start|end)|reset) N\n(?:awaits CH have N need N\n)+)*"
+                    rb"(?:waits (?:CH (?:start|end)|reset) N\n)+",
     ("dump", 0): rb"(?:channel N (?:in|out) CH(?: N)*\n)+(?:N gap N\n|N reset\n|N start CH(?: N)* clock(?: N)+\n|N end CH clock(?: N)+\n)*packets N\n",
     ("compare", 0): rb"no divergence\n", ("compare", 7): FINDINGS,
     ("salvage", 0): rb"salvaged N packets\n", ("migrate", 0): rb"migrated N packets\n", ("wrap", 0): rb"wrapped N channels\n",

@@ -44,12 +44,12 @@ more-beat known new n (Some entry) has h =
     subst HasBeat (same_Some next new (sym (ap (λ b. cond b None (Some next)) t) ∙ h)) has)
     (cases_Bool (is_said known.lines entry))
 
-some-beat : (served : Bool) (known new : Known) (o : Option ℕ) (n : ℕ) (words : List (List ℕ)) → HasBeat known
-    → behind_some served known o n words ≡ Some new → HasBeat new
-some-beat served known new None n words has h = begun-beat known new words (beat_of words) refl h
-some-beat served known new (Some beat) n words has h = more-beat known new n (entry_of served words) has h
+some-beat : (five : Bool) (known new : Known) (o : Option ℕ) (n : ℕ) (words : List (List ℕ)) → HasBeat known
+    → behind_some five known o n words ≡ Some new → HasBeat new
+some-beat five known new None n words has h = begun-beat known new words (beat_of words) refl h
+some-beat five known new (Some beat) n words has h = more-beat known new n (entry_of five words) has h
 
-pub beat-kept : (served : Bool) (known new : Known) (n : ℕ) (words : List (List ℕ)) → HasBeat known
-    → behind_words served known n words ≡ Some new → HasBeat new
-beat-kept served known new n [] has h = subst HasBeat (same_Some known new h) has
-beat-kept served known new n (word ∷ words) has h = some-beat served known new known.beat n (word ∷ words) has h
+pub beat-kept : (five : Bool) (known new : Known) (n : ℕ) (words : List (List ℕ)) → HasBeat known
+    → behind_words five known n words ≡ Some new → HasBeat new
+beat-kept five known new n [] has h = subst HasBeat (same_Some known new h) has
+beat-kept five known new n (word ∷ words) has h = some-beat five known new known.beat n (word ∷ words) has h

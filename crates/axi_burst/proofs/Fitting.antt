@@ -25,8 +25,8 @@ use Rattle.axi_burst.specs.declared.axi.AddressPorts.{AddressPorts}
 use Rattle.axi_burst.specs.declared.ports.Word.{Word}
 use Rattle.axi_burst.specs.declared.ports.Word.TheVariants.{Id, Addr, Len, Size, Burst}
 use Rattle.axi_burst.specs.Forms.{is_beat}
-use Rattle.axi_burst.specs.Passes.{AreAddressPorts, IsAddress}
-use Rattle.axi_burst.specs.Ports.{is_port, is_wide, place_fits}
+use Rattle.axi_burst.specs.Passes.{AreAddressPorts, IsAddress, places_of}
+use Rattle.axi_burst.specs.Ports.{address_fits, is_port, is_wide, place_fits}
 use Rattle.axi_burst.specs.Transfers.{FitsAddress, Transfer, address, addresses, beat_of, beats, end_places, field, size_of, transfers}
 
 -- ---- a number is below the power of its port's width
@@ -56,18 +56,15 @@ size-wide w h = let e = eqb-true w 3 h in omega (arith, e)
 addr-wide : AtMost Addr 64
 addr-wide w h = grind (arith, nat_tests)
 
-one-fits : (channels : List Channel) (ports : AddressPorts) (p : Packet) → AreAddressPorts channels ports → IsPacket channels p
-    → has p.starts ports.channel ≡ true → FitsAddress ports (content_of channels p ports.channel)
-one-fits channels ports p are is h =
-    let ws = are.channel.widths in
-    let f = content-fits channels p ports.channel are.channel is.contents are.there h in
-    let numbers = content_of channels p ports.channel in
+-- numbers that fit ports, which fit the words of an address
+pub content_fits : (ports : AddressPorts) (ws numbers : List ℕ) → address_fits ws (places_of ports) ≡ true → Fit ws numbers → FitsAddress ports numbers
+content_fits ports ws numbers fit f =
     let id = place_fits ws Id ports.id in
     let addr = place_fits ws Addr (Some ports.addr) in
     let len = place_fits ws Len ports.len in
     let size = place_fits ws Size ports.size in
     let burst = place_fits ws Burst ports.burst in
-    let behind_id = right_of id (addr && (len && (size && burst))) are.fit in
+    let behind_id = right_of id (addr && (len && (size && burst))) fit in
     let behind_addr = right_of addr (len && (size && burst)) behind_id in
     let behind_len = right_of len (size && burst) behind_addr in
     record {
@@ -75,6 +72,12 @@ one-fits channels ports p are is h =
       size = at-place Size 3 size-wide ws numbers f ports.size (left_of size burst behind_len);
       addr = at-place Addr 64 addr-wide ws numbers f (Some ports.addr) (left_of addr (len && (size && burst)) behind_id);
     }
+
+one-fits : (channels : List Channel) (ports : AddressPorts) (p : Packet) → AreAddressPorts channels ports → IsPacket channels p
+    → has p.starts ports.channel ≡ true → FitsAddress ports (content_of channels p ports.channel)
+one-fits channels ports p are is h =
+    content_fits ports are.channel.widths (content_of channels p ports.channel) are.fit
+    (content-fits channels p ports.channel are.channel is.contents are.there h)
 
 pub contents_fit : (channels : List Channel) (packets : List Packet) (ports : AddressPorts) → AreAddressPorts channels ports
     → All (IsPacket channels) packets
@@ -105,7 +108,7 @@ size-small : (beat : ℕ) (place : Option ℕ) (content : List ℕ) → is_beat 
 size-small beat None content b l = beat-small beat b
 size-small beat (Some place) content b l = power-small (slice_index content place) l
 
-is-address : (beat : ℕ) (ports : AddressPorts) (x : Transfer) → is_beat beat ≡ true → FitsAddress ports x.content
+pub is-address : (beat : ℕ) (ports : AddressPorts) (x : Transfer) → is_beat beat ≡ true → FitsAddress ports x.content
     → IsAddress (address beat ports x)
 is-address beat ports x b f =
     let size = size-small beat ports.size x.content b f.size in

@@ -72,20 +72,20 @@ abbrev pub data_of : List (List ℕ) → Option Entry
 data_of (wdata ∷ wstrb ∷ rdata ∷ []) = option_map (λ (places : List ℕ). E.Data places) (numbers_of (wdata ∷ wstrb ∷ rdata ∷ []))
 data_of words = None
 
--- the words behind the first one; `memory` and `data` have a form only where a memory is served
+-- the words behind the first one; `data` has a form only in a file with all five channels
 abbrev pub form_of : Bool → Keyword → List (List ℕ) → Option Entry
-form_of served (K.Channel role) words = channel_of role words
-form_of served K.Memory words = if served then memory_of words else None
-form_of served K.Data words = if served then data_of words else None
+form_of five (K.Channel role) words = channel_of role words
+form_of five K.Memory words = memory_of words
+form_of five K.Data words = if five then data_of words else None
 
 abbrev pub form_under : Bool → Option Keyword → List (List ℕ) → Option Entry
-form_under served None words = None
-form_under served (Some keyword) words = form_of served keyword words
+form_under five None words = None
+form_under five (Some keyword) words = form_of five keyword words
 
 -- what the words of a line behind `beat N` say, None where they have no listed form
 abbrev pub entry_of : Bool → List (List ℕ) → Option Entry
-entry_of served [] = None
-entry_of served (first ∷ words) = form_under served (keyword_of first) words
+entry_of five [] = None
+entry_of five (first ∷ words) = form_under five (keyword_of first) words
 
 -- a power of two from 1 to 128
 abbrev pub is_beat : ℕ → Bool

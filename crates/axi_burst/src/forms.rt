@@ -29,7 +29,7 @@ pub(crate) fn is_word(word: &[u8], text: &[u8]) -> bool
 }
 
 #[tactic(auto, unfolding(crate::specs::Forms::keyword_of))]
-fn keyword_of(word: &[u8]) -> Option<Keyword>
+pub(crate) fn keyword_of(word: &[u8]) -> Option<Keyword>
     ensures { result ≡ keyword_of word.now }
 {
     if is_word(word, b"aw") {
@@ -159,32 +159,32 @@ fn data_of(alloc: Global, words: &[Name]) -> Result<Option<Entry>, Memory>
     }
 }
 
-/// What the words behind the first one say. `memory` and `data` say something only where a memory is served.
+/// What the words behind the first one say. `data` says something only in a file with all five channels.
 fn form_of(
     alloc: Global,
-    served: bool,
+    five: bool,
     keyword: Keyword,
     words: &[Name],
 ) -> Result<Option<Entry>, Memory>
-    ensures { IfOk result (λ e. e ≡ form_of served keyword words.now) }
+    ensures { IfOk result (λ e. e ≡ form_of five keyword words.now) }
 {
     match keyword {
         Keyword::Channel { role } => channel_of(alloc, role, words),
-        Keyword::Memory if served => Ok(memory_of(words)),
-        Keyword::Data if served => data_of(alloc, words),
+        Keyword::Memory => Ok(memory_of(words)),
+        Keyword::Data if five => data_of(alloc, words),
         _ => Ok(None),
     }
 }
 
 /// What the words of a line behind `beat N` say, `None` where they have no listed form.
-pub fn entry_of(alloc: Global, served: bool, words: &[Name]) -> Result<Option<Entry>, Memory>
-    ensures { IfOk result (λ e. e ≡ entry_of served words.now) }
+pub fn entry_of(alloc: Global, five: bool, words: &[Name]) -> Result<Option<Entry>, Memory>
+    ensures { IfOk result (λ e. e ≡ entry_of five words.now) }
 {
     let Some((first, rest)) = words.split_first() else {
         return Ok(None);
     };
     match keyword_of(first.as_slice()) {
-        Some(keyword) => form_of(alloc, served, keyword, rest),
+        Some(keyword) => form_of(alloc, five, keyword, rest),
         None => Ok(None),
     }
 }

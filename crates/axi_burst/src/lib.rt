@@ -33,3 +33,4 @@ pub use laws::{examples, heads_advance};
 pub use reading::read_axi;
 pub use text::burst_text;
 pub use trace_model;
+pub use transfers::{Address, address_at};

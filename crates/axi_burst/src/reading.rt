@@ -3,17 +3,14 @@
 ghost use Rattle.std.specs.Prelude.{◌≡◌, ◌<◌, ◌+◌, ◌^◌, ◌++◌, ◌∷◌, [], length, IfOk, OnOk};
 ghost use Rattle.std.specs.List.{list_any};
 ghost use Rattle.axi_burst.specs.Kinds.{role_number, same_entry, is_of, is_said, has_role, same, is_whole};
-ghost use Rattle.axi_burst.specs.Reading.{Takes, ReadsLines, ReadsAxi, read_lines};
+ghost use Rattle.axi_burst.specs.Reading.{Takes, ReadsLines, ReadsAxi, read_lines, is_keyword, begins_as, is_line_of, has_line, has_five};
 
 use crate::axi_text::{AxiLine, AxiLines, AxiText, Entry, Role};
 use crate::error::AxiError;
-use crate::forms::{beat_of, entry_of};
+use crate::forms::{Keyword, beat_of, entry_of, keyword_of};
 use std::alloc::Global;
 use vidi_lines::vidi_bits::Name;
 use vidi_lines::{Line, each_line};
-
-/// Whether a memory is served, so that the lines `memory` and `data` may stand.
-const SERVED: bool = false;
 
 /// What is known behind some lines: the data bus's bytes, where a line had words, and what the lines behind that one say.
 #[derive(Drop)]
@@ -97,6 +94,56 @@ fn is_whole(lines: &[AxiLine]) -> bool
         && (writes || reads)
 }
 
+/// Whether the first word of a line says the channel that has this role.
+fn is_keyword(role: Role, keyword: Option<Keyword>) -> bool
+    ensures { result ≡ is_keyword role keyword }
+{
+    match keyword {
+        Some(Keyword::Channel { role: own }) => role_number(role) == role_number(own),
+        _ => false,
+    }
+}
+
+fn begins_as(role: Role, words: &[Name]) -> bool
+    ensures { result ≡ begins_as role words.now }
+{
+    match words.first() {
+        Some(word) => is_keyword(role, keyword_of(word.as_slice())),
+        None => false,
+    }
+}
+
+fn is_line_of(role: Role, line: &Option<Line>) -> bool
+    ensures { result ≡ is_line_of role line.now }
+{
+    match line {
+        Some(line) => begins_as(role, line.words.as_slice()),
+        None => false,
+    }
+}
+
+fn has_line(lines: &[Option<Line>], role: Role) -> bool
+    ensures { result ≡ has_line lines.now role }
+{
+    for line in lines {
+        if is_line_of(role, line) {
+            return true;
+        }
+    }
+    false
+}
+
+/// Whether lines name the channels of all five roles.
+fn has_five(lines: &[Option<Line>]) -> bool
+    ensures { result ≡ has_five lines.now }
+{
+    has_line(lines, Role::WriteAddress)
+        && has_line(lines, Role::WriteData)
+        && has_line(lines, Role::WriteResponse)
+        && has_line(lines, Role::ReadAddress)
+        && has_line(lines, Role::ReadData)
+}
+
 impl Known {
     ghost use Rattle.std.specs.Prelude.{None};
 
@@ -111,9 +158,15 @@ impl Known {
         }
     }
 
-    /// Takes in the words of the line with this number.
-    fn take_words(&mut self, alloc: Global, number: u32, words: &[Name]) -> Result<(), AxiError>
-        ensures { Takes self.old number words.now self.new result }
+    /// Takes in the words of the line with this number, in a file that has all five channels or not.
+    fn take_words(
+        &mut self,
+        alloc: Global,
+        five: bool,
+        number: u32,
+        words: &[Name],
+    ) -> Result<(), AxiError>
+        ensures { Takes five self.old number words.now self.new result }
     {
         if words.is_empty() {
             return Ok(());
@@ -125,7 +178,7 @@ impl Known {
             self.beat = Some(beat);
             return Ok(());
         }
-        let Some(entry) = entry_of(alloc, SERVED, words)? else {
+        let Some(entry) = entry_of(alloc, five, words)? else {
             return Err(AxiError::Line { line: number });
         };
         if is_said(self.lines.as_slice(), &entry) {
@@ -144,13 +197,14 @@ fn read_each(alloc: Global, lines: &[Option<Line>]) -> Result<AxiText, AxiError>
     requires { length lines.now < 2 ^ 31 }
     ensures { ReadsLines lines.now result }
 {
+    let five = has_five(lines);
     let mut known = Known::new(alloc);
     let mut number: u32 = 1;
     for line in lines {
         let Some(line) = line else {
             return Err(AxiError::Line { line: number });
         };
-        known.take_words(alloc, number, line.words.as_slice())?;
+        known.take_words(alloc, five, number, line.words.as_slice())?;
         number += 1;
     }
     let Known { beat, lines } = known;
@@ -162,7 +216,8 @@ fn read_each(alloc: Global, lines: &[Option<Line>]) -> Result<AxiText, AxiError>
 
 /// Reads an AXI file.
 ///
-/// `Line` comes exactly where A1 holds: with the first line that is bad by its bytes, of no form, or said before; else, where
+/// `Line` comes exactly where A1 holds: with the first line that is bad by its bytes, of no form, said before, or `data` in a file
+/// without all five channels; else, where
 /// of the channels of writes or of reads some are missing, or all channels are, with the number behind the last line's.
 /// `Memory` comes where no memory was found. The time is linear in the length.
 pub fn read_axi(alloc: Global, bytes: &[u8]) -> Result<AxiText, AxiError>

@@ -14,7 +14,7 @@ use std::alloc::Global;
 use trace_model::vidi_bits::{Items, Memory};
 use trace_model::{Channel, Packet, Trace, names};
 
-/// An address: a burst of so many beats of so many bytes.
+/// An address: a burst of so many beats of so many bytes, and the code of its type (A3.4.1: 0 is fixed, 1 incrementing, 2 wrapping).
 #[derive(Clone, Copy)]
 pub struct Address {
     pub id: u128,
@@ -59,8 +59,8 @@ fn size_of(beat: u32, place: Option<usize>, content: &[u128]) -> u32
     }
 }
 
-/// The address that a content says, in packet 0.
-fn address_at(beat: u32, ports: &AddressPorts, content: &[u128]) -> Address
+/// The address that the content of a transaction says on a bus of so many bytes: one number for each port. Its packet counts as 0.
+pub fn address_at(beat: u32, ports: &AddressPorts, content: &[u128]) -> Address
     requires { FitsAddress ports.now content.now }
     ensures { result ≡ begun_address beat ports.now content.now }
 {

@@ -6,7 +6,7 @@ use axi_burst::{Axi, AxiError, bind_axi, read_axi};
 use std::alloc::Global;
 
 /// The channels of a subordinate, one beside them, and some of a manager: the direction, the name and the widths.
-const TABLE: [(Dir, &str, &[u8]); 8] = [
+const TABLE: [(Dir, &str, &[u8]); 9] = [
     (Dir::Inward, "aw", &[32, 8, 3, 2, 4]),
     (Dir::Inward, "w", &[32, 1]),
     (Dir::Outward, "b", &[2, 4]),
@@ -15,19 +15,33 @@ const TABLE: [(Dir, &str, &[u8]); 8] = [
     (Dir::Inward, "wide", &[65, 33, 128]),
     (Dir::Outward, "ask", &[32]),
     (Dir::Inward, "data", &[8]),
+    (Dir::Inward, "strobed", &[32, 4, 1]),
 ];
 
 /// Files that fit.
-const FITTING: [&str; 5] = [
+const FITTING: [&str; 6] = [
     "beat 4\naw aw 4 0 1 2 3\nw w 1\nb b 1\nar ar 4 0 1 2 3\nr r 2 1",
     "beat 4\nr r none none\nar ar none 0 none none none",
     "beat 4\nb b none\nw w none\naw aw none 0x0 none none none",
     "beat 4\nar ask none 0 none none none\nr data none none",
     "beat 4\nr data none none\nar ask none 0 none none none",
+    "beat 4\ndata 0 1 2\naw aw none 0 none none none\nw strobed 2\nb b none\nar ar none 0 none none none\nr r none 1\nmemory 16",
 ];
 
 /// Files that don't, each with the first line at fault.
-const FAULTY: [(&str, u32); 16] = [
+const FAULTY: [(&str, u32); 19] = [
+    (
+        "beat 4\naw aw none 0 none none none\nw w none\nb b none\nar ar none 0 none none none\nr r none none\ndata 0 1 0",
+        7,
+    ),
+    (
+        "beat 4\naw aw none 0 none none none\nw strobed 2\nb b none\nar ar none 0 none none none\nr r none 1\ndata 0 2 0",
+        7,
+    ),
+    (
+        "beat 4\ndata 0 1 1\naw aw none 0 none none none\nw strobed 2\nb b none\nar ar none 0 none none none\nr r none 1",
+        2,
+    ),
     ("beat 4\nar no none 0 none none none\nr r none none", 2),
     ("beat 4\nr r none none\n\nar no none 0 none none none", 4),
     ("beat 4\nar ar none 0 none none none\nr ar none none", 3),

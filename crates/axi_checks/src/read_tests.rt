@@ -7,6 +7,10 @@ use std::alloc::Global;
 const WHOLE: &str =
     "# a port\n\nbeat 128\naw aw 0 1 2 3 4\nw w 0x1 # LAST\nb b 0\nr r 0 1\nar ar 0 1 2 3 4\n";
 
+/// A port that a memory of 16 words answers.
+const SERVED: &str =
+    "beat 4\ndata 0 1 0\naw aw none 0 none none none\nw w none\nb b none\nar ar none 0 none none none\nmemory 16\nr r none none";
+
 /// A port without IDs that only reads words.
 const LITE: &str = "beat 4\nar ar none 0 none none none\nr r none none";
 
@@ -92,9 +96,24 @@ fn forms_count(rt: HostRuntime) {
             2
         )
     );
-    assert!(rt; is_refused(rt.alloc(), "beat 4\nmemory 16\nr r none none", 2));
+    assert!(rt; is_refused(rt.alloc(), "beat 4\nmemory 0\nr r none none", 2));
+    assert!(rt; is_refused(rt.alloc(), "beat 4\nmemory 65537\nr r none none", 2));
     assert!(rt; is_refused(rt.alloc(), "beat 4\nr r none none\nr s none none\nx", 3));
     assert!(rt; is_refused(rt.alloc(), "beat 4\nx\nr r none none\u{7f}", 2));
+}
+
+#[test]
+fn data_needs_all_channels(rt: HostRuntime) {
+    assert!(rt; is_read(rt.alloc(), SERVED, 4, 7));
+    assert!(rt;
+        is_refused(
+            rt.alloc(),
+            "beat 4\ndata 0 1 0\nar a none 0 none none none\nr r none none\nx",
+            2
+        )
+    );
+    assert!(rt; is_refused(rt.alloc(), "beat 4\ndata 0 1 0\naw\nw\nb\nar\nr", 3));
+    assert!(rt; is_refused(rt.alloc(), "beat 4\naw\ndata 0 none 0\nw\nb\nar\nr", 2));
 }
 
 #[test]

@@ -213,32 +213,32 @@ moved-one t e kind have ends c cursors mask left new r l up are is further own o
     ap (λ b. moved have ends c c + b) (sym (bit-from-has ends c up)) ∙ sym (moved-here have ends c) in
     record {
       all = record {
-      many = length-set cursors c new ∙ are.all.many;
-      each = λ d k at. ⊎_elim
-          (λ (here : d ≡ c).
-          let there : slice_get (set cursors c new) d ≡ Some new =
-          slice_get-get_or (set cursors c new) d new (omega (arith, here, l, length-set cursors c new)) ∙ ap Some (ap (λ i. get_or (set cursors c new) i new) here ∙ get_or-set_same cursors c new new l) in
-          let same : new ≡ k = same_Some new k (sym there ∙ at) in
-          let n : moved have ends c c + 1 ≡ moved have ends (c + 1) d = gone ∙ ap (moved have ends (c + 1)) (sym here) in
-          subst (λ i. IsBehind t e kind i (moved have ends (c + 1) d) k) (sym here)
-          (subst (λ m. IsBehind t e kind c m k) n (subst (IsBehind t e kind c (moved have ends c c + 1)) same is)))
-          (λ (ne : d ≡ c → ⊥).
-          let within = slice_get_within (set cursors c new) d k at in
-          let back : slice_get cursors d ≡ Some k =
-          slice_get-get_or cursors d k (omega (arith, within, length-set cursors c new))
-          ∙ ap Some (sym (get_or-set_other cursors c d new k ne) ∙ same_Some (get_or (set cursors c new) d k) k (sym (slice_get-get_or (set cursors c new) d k within) ∙ at)) in
-          subst (λ m. IsBehind t e kind d m k) (moved-other have ends c d ne) (are.all.each d k back))
-          (cases_eq d c);
+        many = length-set cursors c new ∙ are.all.many;
+        each = λ d k at. ⊎_elim
+            (λ (here : d ≡ c).
+            let there : slice_get (set cursors c new) d ≡ Some new =
+            slice_get-get_or (set cursors c new) d new (omega (arith, here, l, length-set cursors c new)) ∙ ap Some (ap (λ i. get_or (set cursors c new) i new) here ∙ get_or-set_same cursors c new new l) in
+            let same : new ≡ k = same_Some new k (sym there ∙ at) in
+            let n : moved have ends c c + 1 ≡ moved have ends (c + 1) d = gone ∙ ap (moved have ends (c + 1)) (sym here) in
+            subst (λ i. IsBehind t e kind i (moved have ends (c + 1) d) k) (sym here)
+            (subst (λ m. IsBehind t e kind c m k) n (subst (IsBehind t e kind c (moved have ends c c + 1)) same is)))
+            (λ (ne : d ≡ c → ⊥).
+            let within = slice_get_within (set cursors c new) d k at in
+            let back : slice_get cursors d ≡ Some k =
+            slice_get-get_or cursors d k (omega (arith, within, length-set cursors c new))
+            ∙ ap Some (sym (get_or-set_other cursors c d new k ne) ∙ same_Some (get_or (set cursors c new) d k) k (sym (slice_get-get_or (set cursors c new) d k within) ∙ at)) in
+            subst (λ m. IsBehind t e kind d m k) (moved-other have ends c d ne) (are.all.each d k back))
+            (cases_eq d c);
       };
       named = record {
-      below = still-below mask left c (length t.channels) (let m = are.all.many in omega (arith, l, m)) are.named.below others;
-      more = λ d m. ⊎_elim
-          (λ (here : d ≡ c). subst (λ i. (has left i ≡ true) ↔ (moved have ends (c + 1) i < count kind i (epoch e t.packets))) (sym here)
-          (more-same (has left c) (moved have ends c c + 1) (moved have ends (c + 1) c) (count kind c (epoch e t.packets)) gone
-          (along r (has left c) own further)))
-          (λ (ne : d ≡ c → ⊥). more-same (has left d) (moved have ends c d) (moved have ends (c + 1) d) (count kind d (epoch e t.packets))
-          (moved-other have ends c d ne) (along (has mask d) (has left d) (others d ne) (are.named.more d m)))
-          (cases_eq d c);
+        below = still-below mask left c (length t.channels) (let m = are.all.many in omega (arith, l, m)) are.named.below others;
+        more = λ d m. ⊎_elim
+            (λ (here : d ≡ c). subst (λ i. (has left i ≡ true) ↔ (moved have ends (c + 1) i < count kind i (epoch e t.packets))) (sym here)
+            (more-same (has left c) (moved have ends c c + 1) (moved have ends (c + 1) c) (count kind c (epoch e t.packets)) gone
+            (along r (has left c) own further)))
+            (λ (ne : d ≡ c → ⊥). more-same (has left d) (moved have ends c d) (moved have ends (c + 1) d) (count kind d (epoch e t.packets))
+            (moved-other have ends c d ne) (along (has mask d) (has left d) (others d ne) (are.named.more d m)))
+            (cases_eq d c);
       };
     }
 

@@ -135,10 +135,10 @@ module _ (m : Map) (packets : List Packet) (past : List (List Row)) (here : List
   ended-now n says =
       let when = ended-when (not (is_nil past)) m (epoch (length past) packets) here last some stable last_is n (epoch-plain (length past) packets) in (
         λ e. (let h = says.0 e in
-        record {
-          last = sym number-is ∙ h.0;
-          ended = when.0 (λ c l. subst (λ ps. IsDone ps (done here) last c) here-epoch (h.1 c l));
-        }),
+            record {
+              last = sym number-is ∙ h.0;
+              ended = when.0 (λ c l. subst (λ ps. IsDone ps (done here) last c) here-epoch (h.1 c l));
+            }),
         λ (h : HasEndedIn n packets past here).
             says.1 (number-is ∙ h.last, λ c l. subst (λ ps. IsDone ps (done here) last c) (sym here-epoch) (when.1 h.ended c l)),
       )
@@ -149,11 +149,11 @@ module _ (m : Map) (packets : List Packet) (past : List (List Row)) (here : List
       → (r ≡ true) ↔ TurnsBehind m.channels packets past here
   turns-now n inward many inward-is says = (
     λ e. (let h = says.0 e in
-    let below = h.0 in (
-      omega (arith, below, number-is),
-      done-shown (not (is_nil past)) m (epoch (length past) packets) here last some stable last_is inward inward-is n many
-          (λ c l. subst (λ ps. IsShownOf inward ps (done here) last c) here-epoch (h.1 c l)),
-    )),
+        let below = h.0 in (
+          omega (arith, below, number-is),
+          done-shown (not (is_nil past)) m (epoch (length past) packets) here last some stable last_is inward inward-is n many
+              (λ c l. subst (λ ps. IsShownOf inward ps (done here) last c) here-epoch (h.1 c l)),
+        )),
     λ (h : TurnsBehind m.channels packets past here).
         (let below = h.0 in
         says.1 (

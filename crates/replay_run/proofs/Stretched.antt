@@ -221,8 +221,11 @@ ends-free d m packets n past here (Short helds events) well ends =
     (λ (open-at : (p : ℕ) × IsFirstOpen (length m.channels) now here p).
     inl (open-at.0, open-at.1, unheld m.channels now number more here open-at.0 none (law.1 open-at.0 open-at.1)))
     (λ (free : IsResetFree m.channels (epochs packets) number now here).
-    inr (free.shown, reset-waits m.channels now number more here
-    (lt-ltb number (resets packets) (let next = free.next in omega (arith, next, many))) free.free))
+    inr (
+      free.shown,
+      reset-waits m.channels now number more here
+          (lt-ltb number (resets packets) (let next = free.next in omega (arith, next, many))) free.free,
+    ))
     law.0))
 
 -- ---- the trace of the rows

@@ -1,21 +1,19 @@
 -- The commands on designs: no failed write among their answers, and the same where no read failed.
-use Rattle.std.proofs.Common.{◌≡◌, ℕ, Bool, List, [], Option, None, Some, Ok, inl, inr, length}
+use Rattle.std.proofs.Common.{◌≡◌, ℕ, Bool, List, Option, None, Some, Ok, inl, inr, length}
 use Rattle.bench_run.specs.trace_model.declared.channel.Channel.{Channel}
 use Rattle.bench_run.specs.trace_model.declared.row.Row.{Row}
 use Rattle.bench_run.specs.trace_model.Recording.{trace_of}
 use Rattle.net_design.specs.declared.design.Design.{Design}
 use Rattle.vidi_bench.specs.vlog_design.Design.{file_counts}
 use Rattle.bench_run.specs.chan_map.declared.pins.Map.{Map}
-use Rattle.vidi_recorder.specs.room_ledger.Reservation.{need}
 use Rattle.bench_run.specs.env_script.declared.script.Script.{Script}
 use Rattle.bench_run.specs.env_script.declared.stalls.Stalls.{Stalls}
 use Rattle.bench_run.specs.env_script.Reasons.{read_lines}
 use Rattle.bench_run.specs.env_script.Stalls.{ReadsStalls}
 use Rattle.bench_run.specs.declared.plain.Spot.{Spot}
 use Rattle.vidi_recorder.specs.vidi_io.Shelf.{Files}
-use Rattle.vidi_recorder.specs.Course.{sizes_of}
 use Rattle.vidi_bench.specs.report_text.declared.reason.Word.TheVariants as words
-use Rattle.vidi_bench.specs.report_text.declared.reason.Reason.TheVariants.{ScriptLine, StallLine, TooSmall}
+use Rattle.vidi_bench.specs.report_text.declared.reason.Reason.TheVariants.{StallLine, TooSmall}
 use Rattle.vidi_bench.specs.report_text.Rows.{run_text}
 use Rattle.vidi_bench.specs.declared.bench.Bench.{Bench}
 use Rattle.vidi_bench.specs.vidi_answer.declared.status.Status.{Status}
@@ -28,7 +26,7 @@ use Rattle.vidi_bench.proofs.Chain.{Implies}
 use Rattle.vidi_bench.proofs.Quiet.{Mute, mute-step, mute-reading, mute-refusal, mute-said, done-goes, quiet-reading}
 use Rattle.vidi_bench.proofs.QuietTexts.{mute-spelling, mute-building, mute-refused_texts, mute-texts, quiet-texts}
 use Rattle.run_commands.specs.Checks.{Checked, Checks}
-use Rattle.run_commands.specs.Records.{HasResets, IsNoPlan, IsTooSmall, RefusedPlan, RefusedPlanned, RefusedStore, IsRecorded, Records}
+use Rattle.run_commands.specs.Records.{least_for, IsNoPlan, IsTooSmall, RefusedPlan, RefusedPlanned, IsRecorded, Records}
 use Rattle.run_commands.specs.Runs.{IsEnded, IsPlayed, RunTexts, Runs}
 use Rattle.run_commands.specs.Said.{check_text, cycles_line, recorded_line, unstable_line}
 
@@ -60,20 +58,16 @@ mute-runs design m script files F = mute-texts design m script files F RunTexts 
 mute-no_plan : (bytes : List ℕ) → Mute (IsNoPlan bytes)
 mute-no_plan bytes x (line, is, said) = mute-refusal words.Stalls (StallLine line) x said
 
-mute-resets : (bytes : List ℕ) (s : Script) → Mute (HasResets bytes s)
-mute-resets bytes s x (line, some, is, said) = mute-refusal words.Script (ScriptLine line) x said
+mute-small : (channels : List Channel) (script : Script) (plan : Stalls) → Mute (IsTooSmall channels script plan)
+mute-small channels script plan x (small, said) = mute-refusal words.Stalls (TooSmall (least_for channels script) plan.capacity) x said
 
-mute-small : (channels : List Channel) (plan : Stalls) → Mute (IsTooSmall channels plan)
-mute-small channels plan x (small, said) = mute-refusal words.Stalls (TooSmall (need (sizes_of channels)) plan.capacity) x said
-
-mute-store : (stalls : List ℕ) (channels : List Channel) → Mute (RefusedStore stalls channels)
-mute-store stalls channels = mute-step (IsNoPlan stalls) (λ (plan : Stalls). ReadsStalls (read_lines stalls) (Ok plan))
-    (IsTooSmall channels) (mute-no_plan stalls) (mute-small channels)
+mute-plan : (stalls : List ℕ) (b : Bench) → Mute (RefusedPlan stalls b)
+mute-plan stalls b = mute-step (IsNoPlan stalls) (λ (plan : Stalls). ReadsStalls (read_lines stalls) (Ok plan))
+    (IsTooSmall b.device.map.channels b.script) (mute-no_plan stalls) (mute-small b.device.map.channels b.script)
 
 pub mute-planned : (design m script stalls : List ℕ) → Mute (RefusedPlanned design m script stalls)
-mute-planned design m script stalls = mute-step (RefusedTexts design m script) (IsBench design m script) (RefusedPlan script stalls)
-    (mute-refused_texts design m script) (λ b. mute-step (HasResets script b.script) (λ (none : Unit {0}). b.script.resets ≡ [])
-    (λ none. RefusedStore stalls b.device.map.channels) (mute-resets script b.script) (λ none. mute-store stalls b.device.map.channels))
+mute-planned design m script stalls = mute-step (RefusedTexts design m script) (IsBench design m script) (RefusedPlan stalls)
+    (mute-refused_texts design m script) (mute-plan stalls)
 
 pub mute-recorded : (channels : List Channel) (rows : List Row) (stop : Option ℕ) → Mute (IsRecorded channels rows stop)
 mute-recorded channels rows None = mute-said Done (recorded_line (length rows) (length (trace_of channels rows).packets)) done-goes

@@ -25,14 +25,14 @@ pub told-recorded : (w : Course) (files left : Option Files) (trace : List ℕ) 
     → IsOutcome w.bound.channels cycles o status text → RecordsRun w trace files P status text left
 told-recorded w files left trace P (outcomes.Whole packets) cycles status text same (rows, leaves, is) said =
     let whole : length rows ≡ w.cycles = sym (ap (λ (rs : List Row). length rs) leaves.0.rows_are) ∙ leaves.0.run.3 in (
-  rows,
-  None,
-  leaves,
-  (
-    said.0,
-    said.1 ∙ ap (λ (n : ℕ). recorded_line n packets) (same ∙ sym whole) ∙ ap (λ (n : ℕ). recorded_line (length rows) n) is,
-  ),
-)
+      rows,
+      None,
+      leaves,
+      (
+        said.0,
+        said.1 ∙ ap (λ (n : ℕ). recorded_line n packets) (same ∙ sym whole) ∙ ap (λ (n : ℕ). recorded_line (length rows) n) is,
+      ),
+    )
 told-recorded w files left trace P (outcomes.Unstable channel cycle packets) cycles status text same (rows, leaves, is) said = (
   rows,
   Some channel,

@@ -9,10 +9,10 @@ use Rattle.std.proofs.lemmas.List.{append-nil, length-append, length-take-le, le
 use Rattle.std.proofs.lemmas.List.Concat.{flat_map-append}
 use Rattle.trace_code.specs.trace_model.declared.channel.Channel.{Channel}
 use Rattle.trace_code.specs.trace_model.declared.packet.Packet.{Packet}
-use Rattle.trace_code.specs.trace_model.declared.packet.TheConstants.{RESET_LEN}
 use Rattle.trace_code.specs.trace_model.declared.row.Row.{Row}
 use Rattle.trace_code.specs.trace_model.Channel.{IsTable}
-use Rattle.trace_code.specs.trace_model.Recording.{after_gap, end_after, end_of, has_event, own_before, packet_of, packets_at, packets_from, reset_packet}
+use Rattle.trace_code.specs.trace_model.Recording.{after_gap, end_after, end_of, has_event, own_before, packet_of, packets_at, packets_from}
+use Rattle.trace_code.specs.trace_model.Recording.{reset_packet}
 use Rattle.trace_code.specs.trace_model.Recording.{trace_of}
 use Rattle.trace_code.specs.trace_model.Row.{IsOver}
 use Rattle.trace_code.proofs.trace_model_lemmas.CountingLemmas.{slice_get-last, slice_get-append_left}

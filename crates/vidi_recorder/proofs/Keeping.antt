@@ -1,6 +1,7 @@
 -- A recorder keeps a row, over plain values.
-use Rattle.std.proofs.Common.{◌≡◌, ℕ, ◌+◌, ◌-◌, ◌*◌, ◌<◌, ◌≤◌, ◌&&◌, Bool, true, false, not, nat_lt, cond, List, [], ◌∷◌, ◌++◌, Option, length, drop, take}
+use Rattle.std.proofs.Common.{◌≡◌, ℕ, ◌+◌, ◌-◌, ◌*◌, ◌≤◌, ◌&&◌, Bool, true, false, not, nat_lt, cond, List, [], ◌∷◌, ◌++◌, Option, length, drop, take}
 use Rattle.std.proofs.Common.{refl, subst, sym, ap, ◌∙◌, append_assoc, add-one, arith}
+use Rattle.std.specs.Borrow.{GName}
 use Rattle.std.specs.Io.KnownBytes.{append_known}
 use Rattle.std.proofs.lemmas.Bool.{and_parts}
 use Rattle.std.proofs.lemmas.List.{length_push}
@@ -21,15 +22,15 @@ use Rattle.env_script.specs.Offer.{Offer}
 use Rattle.env_script.specs.Offered.{AreLasting}
 use Rattle.env_script.specs.Plan.{allowance_at}
 use Rattle.env_script.specs.Resets.{is_due}
-use Rattle.room_ledger.specs.Gates.{Plan, drained, fresh_at, left, permit_at}
+use Rattle.room_ledger.specs.Gates.{Plan, drained, left, permit_at}
 use Rattle.room_ledger.specs.Ledger.{Ledger, Emitted, MayEmit, Regranted, may_reset}
 use Rattle.room_ledger.proofs.Following.{keeps-gates, permit-front}
 use Rattle.run_stage.specs.Stretching.{all_rows, AreRuledStretches}
 use Rattle.vidi_io.specs.Sink.{AppendsSome}
 use Rattle.vidi_recorder.specs.declared.cells.Cells.{Cells}
-use Rattle.vidi_recorder.specs.Course.{permit_before, plan_of, sizes_of, turns_under, turns_within}
-use Rattle.vidi_recorder.specs.Standing.{BreaksAt, Cut, Going, IsNextFresh, StandsAt, end_so_far, reset_bytes, rule_within, IsRestarted}
-use Rattle.vidi_recorder.proofs.Going.{Cycle, bytes_behind, end-more, fresh-last, mixed-long, put-long, reset_behind}
+use Rattle.vidi_recorder.specs.Course.{permit_before, plan_of, sizes_of, turns_within}
+use Rattle.vidi_recorder.specs.Standing.{BreaksAt, Cut, Going, IsNextFresh, Lent, StandsAt, end_so_far, lent, reset_bytes, rule_within, IsRestarted}
+use Rattle.vidi_recorder.proofs.Going.{Cycle, bytes_behind, end-more, fresh-last, mixed-long, put-long}
 use Rattle.vidi_recorder.proofs.Turning.{IsNext, next-row}
 use Rattle.vidi_recorder.proofs.Turns.{count-few, cut-next, going-next}
 
@@ -42,6 +43,17 @@ pub record Knows (m : Map) (offer : List Row → ℕ → Offer) (stalls : Stalls
   pub at : StandsAt m.channels (plan_of stalls times) times cycles begun told stands_for current cells past here
   pub ruled : AreRuledStretches m (rule_within m.channels offer (plan_of stalls times) times cycles)
       (Turns (turns_within m.channels (plan_of stalls times) times cycles)) past (here ++ row ∷ [])
+
+-- what a cycle puts: the packet of a row, and behind it that of a reset where one comes
+pub record Puts (channels : List Channel) (plan : Plan) (times : List ℕ) (cycles : ℕ) (rows : List Row) (row : Row) (t : ℕ)
+    (cells kept turned : Cells) (comes : Bool) : Type 0 where
+  pub is : Emitted cells.room row.starts row.ends kept.room
+  pub put : kept.store.items ≡ cells.store.items ++ row_bytes channels (t - cells.end) row
+  pub ended : kept.end ≡ cond (has_event row) (t + 1) cells.end
+  pub said : comes ≡ turns_within channels plan times cycles (rows ++ row ∷ [])
+  pub can : comes ≡ true → may_reset kept.room ≡ true
+  pub restarted : IsRestarted comes kept.room turned.room
+  pub put_reset : turned.store.items ≡ kept.store.items ++ reset_bytes comes (t + 1 - kept.end)
 
 -- ---- when a reset is due
 -- no reset is due where there are no times
@@ -166,101 +178,95 @@ module _ (m : Map) (offer : List Row → ℕ → Offer) (stalls : Stalls) (times
         let both = and_parts (nat_lt (t + 1) cycles) (is_due times now (t + 1) && may_reset emitted) (sym e ∙ h) in
         (and_parts (is_due times now (t + 1)) (may_reset emitted) both.1).1
 
-    -- ---- and that of the reset behind it
-    module _ (mid : Ledger) (mixed first_mixed : List ℕ) (comes : Bool) (end : ℕ)
-        (said : comes ≡ turns_within m.channels plan times cycles (rows ++ row ∷ [])) (can : comes ≡ true → may_reset emitted ≡ true)
-        (put : first_mixed ≡ cells.store.items ++ row_bytes m.channels (t - cells.end) row)
-        (ended : end ≡ cond (has_event row) (t + 1) cells.end)
-        (turned : IsRestarted comes emitted mid) (put_reset : mixed ≡ first_mixed ++ reset_bytes comes (t + 1 - end)) where
-      end-mid : end ≡ end_of 0 0 (rows ++ row ∷ [])
-      end-mid =
-          ended ∙ ap (λ n. cond (has_event row) (n + 1) cells.end) (sym long)
-          ∙ ap (λ n. cond (has_event row) (length rows + 1) n) (k.at.far.ends ∙ ap (end_so_far rows) (sym row-next.mark))
-          ∙ sym (end-more rows row)
+  -- ---- and that of the reset behind it
+  module _ (t : ℕ) (long : length rows ≡ t) (kept turned : Cells) (comes : Bool)
+      (p : Puts m.channels plan times cycles rows row t cells kept turned comes) where
+    end-mid : kept.end ≡ end_of 0 0 (rows ++ row ∷ [])
+    end-mid =
+        p.ended ∙ ap (λ n. cond (has_event row) (n + 1) cells.end) (sym long)
+        ∙ ap (λ n. cond (has_event row) (length rows + 1) n) (k.at.far.ends ∙ ap (end_so_far rows) (sym row-next.mark))
+        ∙ sym (end-more rows row)
 
-      cycle : Cycle m.channels plan rows cells.fresh row comes cells.room emitted mid cells.store.items mixed
-      cycle = record {
-        table = k.table;
-        over = row-next.over;
-        mark = row-next.mark;
-        follows = row-next.follows;
-        put_row = is;
-        may = can;
-        put_reset = turned;
-        put = put_reset
-            ∙ ap (λ bs. bs ++ reset_bytes comes (t + 1 - end)) (put ∙ ap (λ bs. cells.store.items ++ bs) own-gap)
-            ∙ ap (λ n. (cells.store.items ++ bytes_behind m.channels rows row) ++ reset_bytes comes (n - end)) (sym longer)
-            ∙ ap (λ n. (cells.store.items ++ bytes_behind m.channels rows row) ++ reset_bytes comes (length (rows ++ row ∷ []) - n)) end-mid;
-      }
+    cycle : Cycle m.channels plan rows cells.fresh row comes cells.room kept.room turned.room cells.store.items turned.store.items
+    cycle =
+        let own = bytes_behind m.channels rows row in
+        record {
+          table = k.table;
+          over = row-next.over;
+          mark = row-next.mark;
+          follows = row-next.follows;
+          put_row = p.is;
+          may = p.can;
+          put_reset = p.restarted;
+          put = p.put_reset
+              ∙ ap (λ bs. bs ++ reset_bytes comes (t + 1 - kept.end)) (p.put ∙ ap (λ bs. cells.store.items ++ bs) (own-gap t long kept.room p.is))
+              ∙ ap (λ n. (cells.store.items ++ own) ++ reset_bytes comes (n - kept.end)) (sym (longer t long kept.room p.is))
+              ∙ ap (λ n. (cells.store.items ++ own) ++ reset_bytes comes (length (rows ++ row ∷ []) - n)) end-mid;
+        }
 
-      pub ends-now : (now : ℕ) → now ≡ cond comes (t + 1) end → now ≡ end_so_far (rows ++ row ∷ []) comes
-      ends-now now e = e ∙ ap (λ n. cond comes n end) (sym longer) ∙ ap (λ n. cond comes (length (rows ++ row ∷ [])) n) end-mid
+    pub ends-now : (now : ℕ) → now ≡ cond comes (t + 1) kept.end → now ≡ end_so_far (rows ++ row ∷ []) comes
+    ends-now now e = e ∙ ap (λ n. cond comes n kept.end) (sym (longer t long kept.room p.is))
+        ∙ ap (λ n. cond comes (length (rows ++ row ∷ [])) n) end-mid
 
-      pub came-now : (now was : ℕ) → was ≡ cells.resets → now ≡ was + cond comes 1 0 → now ≡ restarts (rows ++ row ∷ []) + cond comes 1 0
-      came-now now was same e = e ∙ ap (λ n. n + cond comes 1 0) (same ∙ came-mid)
+    pub came-now : (now was : ℕ) → was ≡ cells.resets → now ≡ was + cond comes 1 0 → now ≡ restarts (rows ++ row ∷ []) + cond comes 1 0
+    came-now now was same e = e ∙ ap (λ n. n + cond comes 1 0) (same ∙ came-mid t long kept.room p.is)
 
-      pub waits-now : length mixed ≡ mid.used
-      waits-now = mixed-long m.channels plan k.at.far.header.0 rows cells.fresh row comes cells.room emitted mid mid cells.store.items mixed
-          told told cells.packets some cycle
+    pub waits-now : length turned.store.items ≡ turned.room.used
+    waits-now = mixed-long m.channels plan k.at.far.header.0 rows cells.fresh row comes cells.room kept.room turned.room turned.room
+        cells.store.items turned.store.items told told cells.packets some cycle
 
-      pub going-more : (new : Ledger) (rest : List ℕ) (now : Option (List ℕ)) (allowance : Option ℕ) (one two : ℕ)
-          → allowance ≡ allowance_at stalls.drains t → Regranted (record mid { used = left allowance mid.used }) new
-          → rest ≡ drop (drained allowance mid.used) mixed → now ≡ append_known told (take (drained allowance mid.used) mixed)
-          → one ≡ cells.packets + cond (has_event row) 1 0 → two ≡ one + cond comes 1 0
-          → (first : Option (List ℕ)) → begun ≡ append_known first (header_bytes m.channels)
-          → Going m.channels plan first (rows ++ row ∷ []) comes new rest now two
-      going-more new rest now allowance one two e again r n a b first begins =
-          going-next m.channels plan first rows cells.fresh row comes cells.room emitted mid new cells.store.items mixed told now cells.packets
-          (k.at.far.going first begins) cycle allowance (e ∙ ap (allowance_at stalls.drains) (sym long)) rest two again r n
-          (b ∙ ap (λ c. c + cond comes 1 0) a)
+    pub going-more : (new : Ledger) (rest : List ℕ) (now : Option (List ℕ)) (allowance : Option ℕ) (one two : ℕ)
+        → allowance ≡ allowance_at stalls.drains t → Regranted (record turned.room { used = left allowance turned.room.used }) new
+        → rest ≡ drop (drained allowance turned.room.used) turned.store.items
+        → now ≡ append_known told (take (drained allowance turned.room.used) turned.store.items)
+        → one ≡ cells.packets + cond (has_event row) 1 0 → two ≡ one + cond comes 1 0
+        → (first : Option (List ℕ)) → begun ≡ append_known first (header_bytes m.channels)
+        → Going m.channels plan first (rows ++ row ∷ []) comes new rest now two
+    going-more new rest now allowance one two e again r n a b first begins =
+        going-next m.channels plan first rows cells.fresh row comes cells.room kept.room turned.room new cells.store.items turned.store.items told
+        now cells.packets (k.at.far.going first begins) cycle allowance (e ∙ ap (allowance_at stalls.drains) (sym long)) rest two again r n
+        (b ∙ ap (λ c. c + cond comes 1 0) a)
 
-      pub cut-now : (now : Option (List ℕ)) (allowance : Option ℕ) → allowance ≡ allowance_at stalls.drains t
-          → AppendsSome told now (take (drained allowance mid.used) mixed) → (first : Option (List ℕ))
-          → begun ≡ append_known first (header_bytes m.channels)
-          → Cut m.channels plan first (rows ++ row ∷ []) (turns_within m.channels plan times cycles (rows ++ row ∷ [])) now
-      cut-now now allowance e some first begins =
-          subst (λ b. Cut m.channels plan first (rows ++ row ∷ []) b now) said
-          (cut-next m.channels plan first rows cells.fresh row comes cells.room emitted mid mid cells.store.items mixed told now cells.packets
-          (k.at.far.going first begins) cycle allowance (e ∙ ap (allowance_at stalls.drains) (sym long)) some)
+    pub cut-now : (now : Option (List ℕ)) (allowance : Option ℕ) → allowance ≡ allowance_at stalls.drains t
+        → AppendsSome told now (take (drained allowance turned.room.used) turned.store.items) → (first : Option (List ℕ))
+        → begun ≡ append_known first (header_bytes m.channels)
+        → Cut m.channels plan first (rows ++ row ∷ []) (turns_within m.channels plan times cycles (rows ++ row ∷ [])) now
+    cut-now now allowance e some first begins =
+        subst (λ b. Cut m.channels plan first (rows ++ row ∷ []) b now) p.said
+        (cut-next m.channels plan first rows cells.fresh row comes cells.room kept.room turned.room turned.room cells.store.items
+        turned.store.items told now cells.packets (k.at.far.going first begins) cycle allowance
+        (e ∙ ap (allowance_at stalls.drains) (sym long)) some)
 
-      pub next-now : IsNextFresh m.channels plan times cycles past (here ++ row ∷ []) comes
-      next-now = record {
-        begins = λ e. absurd (none here e);
-        goes_on = λ l. said ∙ ap (turns_within m.channels plan times cycles) (more past here row);
-      }
-        where
-          none : (rs : List Row) → rs ++ row ∷ [] ≡ [] → ⊥
-          none rs e = let a = length_push rs row in let b = ap length e in omega (arith, a, b)
+    pub next-now : IsNextFresh m.channels plan times cycles past (here ++ row ∷ []) comes
+    next-now = record {
+      begins = λ e. absurd (none here e);
+      goes_on = λ l. p.said ∙ ap (turns_within m.channels plan times cycles) (more past here row);
+    }
+      where
+        none : (rs : List Row) → rs ++ row ∷ [] ≡ [] → ⊥
+        none rs e = let a = length_push rs row in let b = ap length e in omega (arith, a, b)
 
 -- ---- under names that are equal
-module _ (m n : Map) (stalls others : Stalls) (times moments : List ℕ) (cycles turns : ℕ) (same : n ≡ m) (same_stalls : others ≡ stalls)
-    (same_times : moments ≡ times) (same_cycles : turns ≡ cycles) (begun told : Option (List ℕ)) (stands_for : List Row → Type 0) where
+module _ (m n : Map) (stalls others : Stalls) (times moments : List ℕ) (cycles turns : ℕ) (env was_env of_cells was_cells sink was_sink : GName)
+    (same : lent n others moments turns env of_cells sink ≡ lent m stalls times cycles was_env was_cells was_sink)
+    (begun told : Option (List ℕ)) (stands_for : List Row → Type 0) where
   pub own : (offer other : List Row → ℕ → Offer) (given : List Channel) (current : ℕ → Offer) (cells : Cells) (past : List (List Row))
       (here : List Row) (row : Row) → other ≡ offer
       → Knows m offer stalls times cycles given begun told stands_for current cells past here row
       → Knows n other others moments turns given begun told stands_for current cells past here row
   own offer other given current cells past here row e knows =
-      subst (λ (x : Map). Knows x other others moments turns given begun told stands_for current cells past here row) (sym same)
-      (subst (λ (x : Stalls). Knows m other x moments turns given begun told stands_for current cells past here row) (sym same_stalls)
-      (subst (λ (x : List ℕ). Knows m other stalls x turns given begun told stands_for current cells past here row) (sym same_times)
-      (subst (λ (x : ℕ). Knows m other stalls times x given begun told stands_for current cells past here row) (sym same_cycles)
+      subst (λ (l : Lent). Knows l.map other l.stalls l.times l.cycles given begun told stands_for current cells past here row) (sym same)
       (subst (λ (x : List Row → ℕ → Offer). Knows m x stalls times cycles given begun told stands_for current cells past here row) (sym e)
-      knows))))
+      knows)
 
   pub stands-back : (current : ℕ → Offer) (cells : Cells) (past : List (List Row)) (here : List Row)
       → StandsAt n.channels (plan_of others moments) moments turns begun told stands_for current cells past here
       → StandsAt m.channels (plan_of stalls times) times cycles begun told stands_for current cells past here
   stands-back current cells past here at =
-      subst (λ (x : Map). StandsAt x.channels (plan_of stalls times) times cycles begun told stands_for current cells past here) same
-      (subst (λ (x : Stalls). StandsAt n.channels (plan_of x times) times cycles begun told stands_for current cells past here) same_stalls
-      (subst (λ (x : List ℕ). StandsAt n.channels (plan_of others x) x cycles begun told stands_for current cells past here) same_times
-      (subst (λ (x : ℕ). StandsAt n.channels (plan_of others moments) moments x begun told stands_for current cells past here) same_cycles
-      at)))
+      subst (λ (l : Lent). StandsAt l.map.channels (plan_of l.stalls l.times) l.times l.cycles begun told stands_for current cells past here)
+      same at
 
   pub breaks-back : (rows : List Row) → BreaksAt n.channels (plan_of others moments) moments turns begun told stands_for rows
       → BreaksAt m.channels (plan_of stalls times) times cycles begun told stands_for rows
   breaks-back rows at =
-      subst (λ (x : Map). BreaksAt x.channels (plan_of stalls times) times cycles begun told stands_for rows) same
-      (subst (λ (x : Stalls). BreaksAt n.channels (plan_of x times) times cycles begun told stands_for rows) same_stalls
-      (subst (λ (x : List ℕ). BreaksAt n.channels (plan_of others x) x cycles begun told stands_for rows) same_times
-      (subst (λ (x : ℕ). BreaksAt n.channels (plan_of others moments) moments x begun told stands_for rows) same_cycles at)))
+      subst (λ (l : Lent). BreaksAt l.map.channels (plan_of l.stalls l.times) l.times l.cycles begun told stands_for rows) same at

@@ -1,10 +1,10 @@
 -- What the trace of a run holds, and what a plan that drains everything makes of a run.
-use Rattle.std.proofs.Common.{◌≡◌, ℕ, zero, suc, ◌+◌, ◌-◌, ◌<◌, ◌≤◌, ◌&&◌, ◌⊎◌, Bool, true, false, not, cond, List, [], ◌∷◌, ◌++◌, fold, inl, inr}
-use Rattle.std.proofs.Common.{Option, Some, None, All, length, take, drop, slice_get, count_by, refl, ap, sym, subst, ◌∙◌, append_assoc, arith, ⊎_elim}
-use Rattle.std.proofs.Common.{add-one, add-zero, zero-add}
+use Rattle.std.proofs.Common.{◌≡◌, ℕ, zero, suc, ◌+◌, ◌-◌, ◌<◌, ◌≤◌, ◌&&◌, ◌⊎◌, Bool, true, false, not, cond, List, [], ◌∷◌, ◌++◌, fold}
+use Rattle.std.proofs.Common.{Some, None, All, length, take, drop, slice_get, count_by, refl, ap, sym, subst, ◌∙◌, append_assoc, arith, ⊎_elim}
+use Rattle.std.proofs.Common.{add-zero, zero-add}
 use Rattle.std.proofs.Math.Bool.{and-false}
 use Rattle.std.proofs.lemmas.Bool.{and_from, and_parts, cases_Bool, cases_lt, false≢true, true_from_ne_false, true≢false}
-use Rattle.std.proofs.lemmas.List.{append-nil, take-append-drop, take-append-le, take_all, take_at, length-append, length-take-le, length-map, length_push}
+use Rattle.std.proofs.lemmas.List.{append-nil, take-append-drop, take-append-le, length-append, length-take-le, length-map, length_push}
 use Rattle.std.proofs.lemmas.List.Elements.{All-head, All-tail}
 use Rattle.std.proofs.lemmas.List.Sums.{fold-append, sum_by-append}
 use Rattle.std.proofs.lemmas.Option.{slice_get_within}
@@ -13,33 +13,31 @@ use Rattle.vidi_io.specs.vidi_bits.Number.{has}
 use Rattle.trace_code.specs.trace_model.declared.channel.Channel.{Channel}
 use Rattle.trace_code.specs.trace_model.declared.event.Kind.TheVariants.{End}
 use Rattle.trace_code.specs.trace_model.declared.packet.Packet.{Packet}
-use Rattle.trace_code.specs.trace_model.declared.row.Offers.{Offers}
 use Rattle.trace_code.specs.trace_model.declared.row.Row.{Row}
 use Rattle.trace_code.specs.trace_model.Channel.{content_bytes}
 use Rattle.trace_code.specs.trace_model.Epoch.{stretch}
 use Rattle.trace_code.specs.trace_model.Laws.{KeepsInFlight}
-use Rattle.trace_code.specs.trace_model.Recording.{after_gap, end_after, has_event, own_before, packet_of, packets_at, packets_from, reset_packet, row_does}
+use Rattle.trace_code.specs.trace_model.Recording.{after_gap, end_after, has_event, own_before, packet_of, packets_at, packets_from, reset_packet}
+use Rattle.trace_code.specs.trace_model.Recording.{row_does}
 use Rattle.trace_code.specs.trace_model.Packet.{count, does}
 use Rattle.trace_code.specs.trace_model.Stability.{IsUnstableAt}
-use Rattle.trace_code.specs.trace_model.Row.{completes, is_in_flight, row_before, AreRows, IsMarked, IsOver}
+use Rattle.trace_code.specs.trace_model.Row.{completes, IsOver}
 use Rattle.trace_code.proofs.RowsBytes.{rows-few}
 use Rattle.trace_code.proofs.trace_model_lemmas.CountingLemmas.{count-cons, slice_get-append_left, slice_get-last, slice_get-take, take-suc_get}
 use Rattle.trace_code.proofs.trace_model_lemmas.RowLaws.{has-none, quiet}
 use Rattle.trace_code.proofs.trace_model_lemmas.TraceLaws.{rows-well_formed, trace-records}
-use Rattle.net_design.specs.declared.design.Design.{Design}
-use Rattle.env_script.specs.chan_map.declared.pins.Map.{Map}
 use Rattle.env_script.specs.chan_map.vidi_bits.Findings.{is_nil}
 use Rattle.env_script.specs.run_model.Laws.{ContentsStay, OffersStay}
 use Rattle.env_script.specs.run_model.Played.{AreStable, all_up, is_fresh_after}
 use Rattle.env_script.specs.run_model.Run.{AllUp, IsStretchRow}
-use Rattle.env_script.specs.run_model.Stretches.{AreRun, AreStretches, IsRunBehind, IsTurned, IsUnturned, Turns, and_stretch, offers_behind, rows_of}
+use Rattle.env_script.specs.run_model.Stretches.{AreRun, AreStretches, IsRunBehind, IsUnturned, Turns, and_stretch, offers_behind, rows_of}
 use Rattle.env_script.proofs.run_model_lemmas.Contents.{has-all, same-masks_below}
 use Rattle.env_script.proofs.run_model_lemmas.PlayedLaws.{row-before_take, within}
 use Rattle.env_script.proofs.run_model_lemmas.RunLaws.{run-keeps, none-behind, kept}
 use Rattle.env_script.proofs.run_model_lemmas.Stays.{keeps-in-flight}
 use Rattle.run_laws.proofs.Ending.{the-run_in}
 use Rattle.run_laws.proofs.StretchLaws.{run-front}
-use Rattle.room_ledger.specs.Gates.{Plan, fresh_at, is_fresh, permit_at, used_at, AreGates}
+use Rattle.room_ledger.specs.Gates.{fresh_at, permit_at, used_at, AreGates}
 use Rattle.room_ledger.specs.Laws.{EverythingDrains}
 use Rattle.room_ledger.specs.Reservation.{least}
 use Rattle.room_ledger.proofs.Following.{used-front}
@@ -48,7 +46,7 @@ use Rattle.env_script.specs.Offer.{Offer}
 use Rattle.env_script.specs.Offered.{AreLasting, offers_after}
 use Rattle.env_script.specs.Resets.{is_due, is_due_behind}
 use Rattle.env_script.proofs.Lasting.{lasting-behind, offers-stay}
-use Rattle.vidi_recorder.specs.Course.{Course, course, gates_behind, permit_before, sizes_of, turns_of, AreRunOf, IsRunOf, IsTheRunOf}
+use Rattle.vidi_recorder.specs.Course.{Course, course, gates_behind, permit_before, sizes_of, turns_of, AreRunOf, IsRunOf}
 use Rattle.vidi_recorder.specs.Laws.{TheRunIsKept, NoHiddenGate, DrainedRunIsPlain}
 use Rattle.vidi_recorder.proofs.Gated.{gates-stay}
 use Rattle.vidi_recorder.proofs.Going.{fresh-front, fresh-last}

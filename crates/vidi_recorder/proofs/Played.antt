@@ -1,7 +1,7 @@
 -- Stretches that a recorder has played are a run of its course.
-use Rattle.std.proofs.Common.{◌≡◌, ℕ, zero, suc, ◌+◌, ◌<◌, ◌≤◌, ◌&&◌, Bool, true, false, not, List, [], ◌∷◌, ◌++◌, Option, Some, None, All, length, take}
-use Rattle.std.proofs.Common.{drop, slice_get, inl, inr, nat_lt, refl, ap, sym, subst, ◌∙◌, append_assoc, arith, ⊎_elim}
-use Rattle.std.proofs.Math.Logic.{∥∥₁_elim, ∥∥₁_map, ∥∥₁_prop}
+use Rattle.std.proofs.Common.{◌≡◌, ℕ, zero, suc, ◌+◌, ◌<◌, ◌≤◌, ◌&&◌, true, false, not, List, [], ◌∷◌, ◌++◌, Option, Some, None, length, take}
+use Rattle.std.proofs.Common.{slice_get, nat_lt, refl, ap, sym, subst, ◌∙◌, arith, ⊎_elim}
+use Rattle.std.proofs.Math.Logic.{∥∥₁_elim, ∥∥₁_prop}
 use Rattle.std.proofs.lemmas.Bool.{and_from, and_parts, cases_Bool, cases_lt, false≢true, lt-ltb, ltb-true}
 use Rattle.std.proofs.lemmas.List.{length-append, length-take-le, length_push, take_at}
 use Rattle.std.proofs.lemmas.Option.{slice_get_within}
@@ -22,7 +22,7 @@ use Rattle.env_script.specs.Resets.{is_due_behind}
 use Rattle.room_ledger.specs.Gates.{Plan}
 use Rattle.run_laws.proofs.Behind as behind
 use Rattle.run_stage.specs.chan_monitor.Shell.{IsMapped}
-use Rattle.run_stage.specs.Stretching.{all_rows, AllAreStable, ArePlayed, GoesOn, IsAsked, PlayStretches}
+use Rattle.run_stage.specs.Stretching.{all_rows, AllAreStable, ArePlayed, GoesOn, IsAsked}
 use Rattle.run_stage.proofs.Stretching.{all-push, before-push, unturned-push}
 use Rattle.vidi_recorder.specs.Course.{Course, AreRunOf, AreTheRunOf, IsTheRunOf, gates_behind, turns_under, turns_within}
 use Rattle.vidi_recorder.specs.Recording.{IsFrontOfTheRun}

@@ -1,28 +1,25 @@
 -- The run is there and is one, and rows under its rules are its first rows.
-use Rattle.std.proofs.Common.{◌≡◌, ℕ, suc, ◌+◌, ◌<◌, ◌≤◌, ◌&&◌, Bool, true, false, not, List, [], ◌∷◌, ◌++◌, Option, Some, None, All, length, take, drop}
+use Rattle.std.proofs.Common.{◌≡◌, ℕ, ◌+◌, ◌<◌, ◌≤◌, true, false, List, [], ◌∷◌, ◌++◌, Option, Some, None, All, length, take, drop}
 use Rattle.std.proofs.Common.{refl, ap, sym, subst, ◌∙◌, append_assoc, arith, ⊎_elim}
 use Rattle.std.specs.List.{flat_map}
 use Rattle.std.proofs.lemmas.Bool.{cases_lt}
-use Rattle.std.proofs.Math.Logic.{∥∥₁_elim, ∥∥₁_map, ∥∥₁_prop}
-use Rattle.std.proofs.lemmas.List.{append-nil, length-append, take-append-drop, take_all, take_at}
+use Rattle.std.proofs.Math.Logic.{∥∥₁_map}
+use Rattle.std.proofs.lemmas.List.{append-nil, take-append-drop, take_all, take_at}
 use Rattle.std.proofs.lemmas.List.Concat.{flat_map-append, length-flat_map}
 use Rattle.std.proofs.lemmas.List.Elements.{All-nil}
 use Rattle.trace_code.specs.trace_model.declared.channel.Channel.{Channel}
-use Rattle.trace_code.specs.trace_model.declared.packet.Packet.{Packet}
 use Rattle.trace_code.specs.trace_model.declared.row.Row.{Row}
 use Rattle.trace_code.specs.trace_model.Recording.{end_after, end_of, packets_at, packets_from, trace_of}
 use Rattle.trace_code.specs.trace_model.Row.{IsOver}
 use Rattle.trace_code.specs.Encoding.{encode, end_mark, header_bytes, packet_bytes, rows_bytes}
 use Rattle.trace_code.proofs.RowsBytes.{encode-rows}
-use Rattle.net_design.specs.declared.design.Design.{Design}
 use Rattle.net_design.specs.Lawful.{IsLawful}
-use Rattle.env_script.specs.chan_map.declared.pins.Map.{Map}
 use Rattle.env_script.specs.run_model.Laws.{IsReady, OffersFit, OneOfLength, OneThatEnds}
 use Rattle.env_script.specs.run_model.Played.{AreStable}
-use Rattle.env_script.specs.run_model.Stretches.{AreTheRun, IsRunBehind, IsTurned, Turns, and_stretch, offers_behind, row_count, rows_of}
+use Rattle.env_script.specs.run_model.Stretches.{AreTheRun, IsRunBehind, Turns, and_stretch, offers_behind, row_count, rows_of}
 use Rattle.run_laws.specs.StretchLaws.{Behind}
-use Rattle.run_laws.proofs.Chaining.{IsFront, count-cons, is-front, same-of}
-use Rattle.run_laws.proofs.Ending.{one-end_by, one-ending_by, the-run_in}
+use Rattle.run_laws.proofs.Chaining.{IsFront, is-front, same-of}
+use Rattle.run_laws.proofs.Ending.{one-ending_by, the-run_in}
 use Rattle.run_laws.proofs.StretchLaws.{Over, further-run, one-here, one-run_by, run-front}
 use Rattle.env_script.specs.Offer.{Offer}
 use Rattle.env_script.specs.Offered.{offers_after, AreLasting}

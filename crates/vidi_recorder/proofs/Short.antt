@@ -10,7 +10,8 @@ use Rattle.trace_code.specs.trace_model.declared.channel.Channel.{Channel}
 use Rattle.trace_code.specs.trace_model.declared.packet.Packet.{Packet}
 use Rattle.trace_code.specs.trace_model.declared.row.Row.{Row}
 use Rattle.trace_code.specs.trace_model.Channel.{IsChannel, IsName, IsTable}
-use Rattle.trace_code.specs.trace_model.Recording.{after_gap, end_after, has_event, own_before, packet_of, packets_at, packets_from, reset_packet, trace_of}
+use Rattle.trace_code.specs.trace_model.Recording.{after_gap, end_after, has_event, own_before, packet_of, packets_at, packets_from, reset_packet}
+use Rattle.trace_code.specs.trace_model.Recording.{trace_of}
 use Rattle.trace_code.specs.trace_model.Row.{IsOver}
 use Rattle.trace_code.specs.declared.decoding.TheConstants.{TRACE_LIMIT}
 use Rattle.trace_code.specs.Encoding.{channel_bytes, encode, end_mark, header_bytes, packet_bytes, row_bytes, rows_bytes}

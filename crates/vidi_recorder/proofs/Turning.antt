@@ -1,6 +1,6 @@
 -- The row that is kept, whatever the design, and what is given for the next one.
 use Rattle.std.proofs.Common.{◌≡◌, ◌&&◌, Bool, true, false, not, List, [], ◌∷◌, ◌++◌, Option}
-use Rattle.std.proofs.Common.{Some, None, ℕ, zero, suc, ◌+◌, ◌<◌, ◌^◌, length, refl, ap, sym, subst, ◌∙◌, append_assoc, arith}
+use Rattle.std.proofs.Common.{Some, None, ℕ, zero, suc, ◌+◌, ◌<◌, ◌^◌, length, refl, ap, sym, subst, ◌∙◌, arith}
 use Rattle.std.proofs.Math.Bool.{and-false, and-true}
 use Rattle.std.proofs.Math.Logic.{∥∥₁_elim}
 use Rattle.std.proofs.Props.{props}
@@ -15,7 +15,7 @@ use Rattle.trace_code.proofs.trace_model_lemmas.CountingLemmas.{slice_get-last}
 use Rattle.net_design.specs.declared.design.Design.{Design}
 use Rattle.env_script.specs.chan_map.declared.pins.Map.{Map}
 use Rattle.env_script.specs.chan_map.vidi_bits.Findings.{is_nil}
-use Rattle.env_script.specs.run_model.Played.{AreStable, is_fresh_after}
+use Rattle.env_script.specs.run_model.Played.{AreStable}
 use Rattle.env_script.specs.run_model.Laws.{OffersStay}
 use Rattle.env_script.specs.run_model.Offers as Rows
 use Rattle.env_script.specs.run_model.Stretches.{Turns, offers_behind, rows_of}

@@ -49,9 +49,9 @@ TheRunIsKept = (d : Design) (m : Map) (offer : List Row → ℕ → Offer) (stal
 
 -- a gate is down in row t only where bytes wait
 abbrev pub NoHiddenGate : Type 0
-NoHiddenGate = (w : Course) (rows : List Row) (t c : ℕ) (row : Row) → least (sizes_of w.bound.channels) w.plan.resets ≤ w.plan.capacity → IsRunOf w rows
-    → slice_get rows t ≡ Some row → c < length w.bound.channels → has row.gates c ≡ false
-    → 0 < used_at (sizes_of w.bound.channels) w.plan rows t row.fresh
+NoHiddenGate = (w : Course) (rows : List Row) (t c : ℕ) (row : Row)
+    → least (sizes_of w.bound.channels) w.plan.resets ≤ w.plan.capacity → IsRunOf w rows → slice_get rows t ≡ Some row
+    → c < length w.bound.channels → has row.gates c ≡ false → 0 < used_at (sizes_of w.bound.channels) w.plan rows t row.fresh
 
 -- the run without a store, with resets as soon as their times have come: the rows are those of its stretches
 pub record IsThePlainRunOf (w : Course) (rows : List Row) (stop : Option ℕ) : Type 0 where

@@ -1,6 +1,6 @@
 //! The recording.
 
-ghost use Rattle.std.specs.Prelude.{◌≡◌, ◌≤◌, ℕ, [], not, false, List, Err, Option, IfOk, IfErr, OnErr, length};
+ghost use Rattle.std.specs.Prelude.{◌≡◌, ◌≤◌, [], not, false, List, Err, Option, IfOk, IfErr, OnErr, length};
 ghost use Rattle.circular_buffer.specs.Buffer.{buffer};
 ghost use Rattle.trace_code.specs.trace_model.declared.row.Row.{Row as OneRow};
 ghost use Rattle.trace_code.specs.trace_model.Channel.{IsTable};
@@ -80,7 +80,8 @@ fn run<S: Shell, E: Env, K: Sink>(
         recorder.old.resets.now recorder.old.cycles) (S.runs shell.new) played × (recorder.new.cells.now.fresh ≡ false))) }
     ensures cut { OnErr result ((d : Design) (s : Values) (before : Option OneRow) → S.runs shell.old d s before
         → IsCutOff (course d recorder.old.map.now (E.offer (E.plan recorder.old.env.now)) recorder.old.stalls.now
-        recorder.old.resets.now recorder.old.cycles) (S.runs shell.new) (E.stands_for recorder.new.env.now) (K.told recorder.old.sink.now) (K.told recorder.new.sink.now)) }
+        recorder.old.resets.now recorder.old.cycles) (S.runs shell.new) (E.stands_for recorder.new.env.now)
+        (K.told recorder.old.sink.now) (K.told recorder.new.sink.now)) }
     ensures waits { IfOk result (λ _. length recorder.new.cells.now.store.items ≤ length recorder.new.cells.now.out.items) }
     ensures map { S.map shell.new ≡ S.map shell.old }
     ensures plan { E.plan recorder.new.env.now ≡ E.plan recorder.old.env.now }
@@ -111,9 +112,9 @@ fn run<S: Shell, E: Env, K: Sink>(
 /// `Whole` exactly where no row of the run is unstable, `Unstable` where one is: the run ends before it. The sink has grown by the
 /// encoding of the run's trace, of at most 134,217,728 bytes; the environment stands for its rows, and the shell in the state behind
 /// them. After `WriteFault`, which comes only where the sink's count of faults rose, environment and shell stand behind the first k
-/// rows of the run. The sink has grown by a front of the header and their packets, with that of the reset behind them, or, where they are
-/// the whole run, of its trace's encoding; for a lawful design it is a front of that of the run. Where k isn't 0 the header is out, and what drains after all of these
-/// rows but the last. `Memory` comes before anything is moved.
+/// rows of the run. The sink has grown by a front of the header and their packets, with that of the reset that comes behind them, or,
+/// where they are the whole run, of its trace's encoding; for a lawful design it is a front of that of the run. Where k isn't 0 the
+/// header is out, and what drains after all of these rows but the last. `Memory` comes before anything is moved.
 pub fn record_run<S: Shell, E: Env, K: Sink>(
     alloc: Global,
     shell: &mut S,

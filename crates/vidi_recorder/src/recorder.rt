@@ -10,7 +10,7 @@ ghost use Rattle.vidi_recorder.specs.Course.{plan_of, turns_within};
 ghost use Rattle.vidi_recorder.specs.Standing.{BreaksAt, SameEnv, SameSink, StandsAt, lent, rule_within};
 
 use crate::cells::Cells;
-use crate::steps::{comes, give, keep, offer, restart};
+use crate::steps::{give, keep, offer, reset_comes, restart};
 use env_script::chan_map::Map;
 use env_script::{Env, Stalls};
 use run_stage::{Gated, StretchPlayer};
@@ -81,7 +81,7 @@ impl<E: Env, K: Sink> StretchPlayer<Gated> for Recorder<'_, '_, '_, '_, '_, '_, 
         let cells = &mut *self.cells;
         self.env.commit(last);
         keep(last, cycle, channels, cells);
-        let comes = comes(cells, self.resets, cycle, self.cycles);
+        let comes = reset_comes(cells, self.resets, cycle, self.cycles);
         restart(cycle, comes, cells);
         give(
             &mut cells.room,

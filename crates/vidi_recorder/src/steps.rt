@@ -73,7 +73,7 @@ pub(crate) fn keep(row: &Row, cycle: u32, channels: &Channels, cells: &mut Cells
 }
 
 /// Whether a reset comes behind a cycle: there is a cycle behind it, the time of the next reset has come, and there is the permit.
-pub(crate) fn comes(cells: &Cells, resets: &Numbers, cycle: u32, cycles: u32) -> bool
+pub(crate) fn reset_comes(cells: &Cells, resets: &Numbers, cycle: u32, cycles: u32) -> bool
     requires { cycle < MOST_CYCLES }
     ensures { result ≡ (nat_lt (cycle + 1) cycles && (is_due resets.now cells.now.resets (cycle + 1) && may_reset cells.now.room)) }
 {
@@ -107,9 +107,9 @@ pub(crate) fn restart(cycle: u32, comes: bool, cells: &mut Cells)
     if !comes {
         return;
     }
-    let len = write_reset(cycle + 1 - cells.end, &mut cells.packet);
+    let reset_len = write_reset(cycle + 1 - cells.end, &mut cells.packet);
     let _len = cells.room.reset();
-    cells.store.put(&cells.packet[..len]);
+    cells.store.put(&cells.packet[..reset_len]);
     cells.packets += 1;
     cells.end = cycle + 1;
     cells.resets += 1;

@@ -1,4 +1,4 @@
-use Rattle.std.proofs.Common.{◌≡◌, ◌<◌, ◌^◌, ℕ, [], false, cond, inl, length, refl, ap, sym, subst, ◌∙◌, arith}
+use Rattle.std.proofs.Common.{◌<◌, ◌^◌, ℕ, [], false, cond, inl, length, refl, ap, sym, subst, ◌∙◌, arith}
 use Rattle.std.proofs.Math.Logic.{∥∥₁_map}
 use Rattle.std.proofs.lemmas.List.{length-map}
 use Rattle.std.specs.Io.KnownBytes.{append_known}
@@ -90,7 +90,7 @@ play_stretches-requires-clause-stands g c =
               (going-first channels plan start cells.room cells.store.items (header_bytes channels) told c.requires.room
               (ap (λ (b : Buffer ℕ). b.items) c.requires.store) refl e));
           ends = c.requires.end ∙ ap (λ b. end_so_far [] b) (sym c.requires.fresh);
-          came = c.requires.resets ∙ ap (λ b. cond b 1 0) (sym c.requires.fresh);
+          came = (let r = c.requires.resets in let f = ap {B = ℕ} (λ b. cond b 1 0) c.requires.fresh in omega (arith, r, f));
           sizes = record {
             store = ap (λ (b : Buffer ℕ). b.capacity) c.requires.store;
             used = let none = ap (λ (l : Ledger). l.used) c.requires.room in omega (arith, none);

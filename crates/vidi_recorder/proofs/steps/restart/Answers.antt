@@ -8,5 +8,5 @@ returns-clause-store c =
     let cells = c.args.cells.now in
     let comes : c.args.comes ≡ true = search rules in
     c.put.ensures ∙ ap (λ (bs : List ℕ). buffer bs cells.store.capacity)
-    (reset-put c.args.comes (c.args.cycle + 1 - cells.end) c.write_reset-len.result cells.store.items cells.packet c.write_reset-len.new.buf comes
-    (c.write_reset-len.ensures.bytes []) c.write_reset-len.ensures.len)
+    (reset-put c.args.comes (c.args.cycle + 1 - cells.end) c.write_reset-reset_len.result cells.store.items cells.packet
+    c.write_reset-reset_len.new.buf comes (c.write_reset-reset_len.ensures.bytes []) c.write_reset-reset_len.ensures.len)

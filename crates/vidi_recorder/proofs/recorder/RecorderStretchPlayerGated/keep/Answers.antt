@@ -1,19 +1,18 @@
-use Rattle.std.proofs.Common.{ℕ, ◌+◌, cond, ◌<◌, ◌≤◌, ◌^◌, List, [], ◌∷◌, ◌++◌, Result, Ok, Err, IfErr, length, ap, sym, subst, ◌∙◌, arith}
+use Rattle.std.proofs.Common.{ℕ, ◌+◌, cond, ◌<◌, ◌^◌, List, [], ◌∷◌, ◌++◌, Result, Ok, Err, IfErr, length, ap, sym, subst, ◌∙◌, arith}
 use Rattle.std.specs.Global.{Vec}
 use Rattle.std.proofs.lemmas.List.{length-map}
 use Rattle.circular_buffer.specs.Buffer.{Buffer}
 use Rattle.trace_code.specs.trace_model.declared.channel.Channel.{Channel}
-use Rattle.trace_code.specs.trace_model.declared.row.Row.{Row}
 use Rattle.trace_code.specs.trace_model.Channel.{content_bytes}
 use Rattle.trace_code.specs.trace_model.Epoch.{restarts}
 use Rattle.trace_code.specs.trace_model.Recording.{has_event}
 use Rattle.trace_code.specs.trace_model.Row.{IsOver}
-use Rattle.env_script.specs.Resets.{is_due}
 use Rattle.run_stage.specs.Stretching.{all_rows}
 use Rattle.vidi_recorder.specs.Course.{plan_of}
-use Rattle.vidi_recorder.specs.Standing.{BreaksAt, Going, IsAsFar, IsNextFresh, IsRestarted, Lent, end_so_far}
-use Rattle.vidi_recorder.proofs.Keeping.{breaks-back, came-now, comes-is, count-after, cut-now, end-after, ended-within, ends-now, going-more, may, may-turn, more, next-now, own}
-use Rattle.vidi_recorder.proofs.Keeping.{kept_sizes, packets-within, resets-within, row-next, some, stands-back, waits-mid, waits-now}
+use Rattle.vidi_recorder.specs.Standing.{BreaksAt, Going, IsAsFar, IsNextFresh, end_so_far}
+use Rattle.vidi_recorder.proofs.Keeping.{breaks-back, came-now, comes-is, count-after, cut-now, end-after, ended-within, ends-now, going-more, may}
+use Rattle.vidi_recorder.proofs.Keeping.{may-turn, more, next-now, own}
+use Rattle.vidi_recorder.proofs.Keeping.{Puts, kept_sizes, packets-within, row-next, some, stands-back, waits-mid, waits-now}
 use Rattle.vidi_recorder.proofs.Turning.{carries-now, given-long}
 use Rattle.vidi_recorder.proofs.Turns.{fits-now, lasting, written-len}
 use Rattle.vidi_recorder.proofs.recorder.RecorderStretchPlayerGated.keep.Goals as goal
@@ -45,13 +44,8 @@ commit-requires-clause-over g c =
     let current = g.E.Env.current env in
     let begun = g.K.Sink.told first.sink.now in
     let told = g.K.Sink.told self.sink.now in
-    let same = ap (λ (l : Lent). l.map) stands.0 in
-    let same_stalls = ap (λ (l : Lent). l.stalls) stands.0 in
-    let same_times = ap (λ (l : Lent). l.times) stands.0 in
-    let same_cycles = ap (λ (l : Lent). l.cycles) stands.0 in
-    let k = own first.map.now m first.stalls.now stalls first.resets.now times first.cycles cycles same same_stalls same_times same_cycles begun
-    told stands_for (g.E.Env.offer (g.E.Env.plan first.env.now)) offer given current cells past here row
-    (ap g.E.Env.offer stands.2.plan) (record {
+    let k = own first.map.now m first.stalls.now stalls first.resets.now times first.cycles cycles _ _ _ _ _ _ stands.0 begun told stands_for
+    (g.E.Env.offer (g.E.Env.plan first.env.now)) offer given current cells past here row (ap g.E.Env.offer stands.2.plan) (record {
       table = stands.1;
       channels = stands.2.channels_stay ∙ stands.2.channels_are;
       at = stands.4;
@@ -84,13 +78,8 @@ commit-requires-clause-carries g c =
     let current = g.E.Env.current env in
     let begun = g.K.Sink.told first.sink.now in
     let told = g.K.Sink.told self.sink.now in
-    let same = ap (λ (l : Lent). l.map) stands.0 in
-    let same_stalls = ap (λ (l : Lent). l.stalls) stands.0 in
-    let same_times = ap (λ (l : Lent). l.times) stands.0 in
-    let same_cycles = ap (λ (l : Lent). l.cycles) stands.0 in
-    let k = own first.map.now m first.stalls.now stalls first.resets.now times first.cycles cycles same same_stalls same_times same_cycles begun
-    told stands_for (g.E.Env.offer (g.E.Env.plan first.env.now)) offer given current cells past here row
-    (ap g.E.Env.offer stands.2.plan) (record {
+    let k = own first.map.now m first.stalls.now stalls first.resets.now times first.cycles cycles _ _ _ _ _ _ stands.0 begun told stands_for
+    (g.E.Env.offer (g.E.Env.plan first.env.now)) offer given current cells past here row (ap g.E.Env.offer stands.2.plan) (record {
       table = stands.1;
       channels = stands.2.channels_stay ∙ stands.2.channels_are;
       at = stands.4;
@@ -123,13 +112,8 @@ commit-requires-clause-ends g c =
     let current = g.E.Env.current env in
     let begun = g.K.Sink.told first.sink.now in
     let told = g.K.Sink.told self.sink.now in
-    let same = ap (λ (l : Lent). l.map) stands.0 in
-    let same_stalls = ap (λ (l : Lent). l.stalls) stands.0 in
-    let same_times = ap (λ (l : Lent). l.times) stands.0 in
-    let same_cycles = ap (λ (l : Lent). l.cycles) stands.0 in
-    let k = own first.map.now m first.stalls.now stalls first.resets.now times first.cycles cycles same same_stalls same_times same_cycles begun
-    told stands_for (g.E.Env.offer (g.E.Env.plan first.env.now)) offer given current cells past here row
-    (ap g.E.Env.offer stands.2.plan) (record {
+    let k = own first.map.now m first.stalls.now stalls first.resets.now times first.cycles cycles _ _ _ _ _ _ stands.0 begun told stands_for
+    (g.E.Env.offer (g.E.Env.plan first.env.now)) offer given current cells past here row (ap g.E.Env.offer stands.2.plan) (record {
       table = stands.1;
       channels = stands.2.channels_stay ∙ stands.2.channels_are;
       at = stands.4;
@@ -162,13 +146,8 @@ keep-requires-clause-row g c =
     let current = g.E.Env.current env in
     let begun = g.K.Sink.told first.sink.now in
     let told = g.K.Sink.told self.sink.now in
-    let same = ap (λ (l : Lent). l.map) stands.0 in
-    let same_stalls = ap (λ (l : Lent). l.stalls) stands.0 in
-    let same_times = ap (λ (l : Lent). l.times) stands.0 in
-    let same_cycles = ap (λ (l : Lent). l.cycles) stands.0 in
-    let k = own first.map.now m first.stalls.now stalls first.resets.now times first.cycles cycles same same_stalls same_times same_cycles begun
-    told stands_for (g.E.Env.offer (g.E.Env.plan first.env.now)) offer given current cells past here row
-    (ap g.E.Env.offer stands.2.plan) (record {
+    let k = own first.map.now m first.stalls.now stalls first.resets.now times first.cycles cycles _ _ _ _ _ _ stands.0 begun told stands_for
+    (g.E.Env.offer (g.E.Env.plan first.env.now)) offer given current cells past here row (ap g.E.Env.offer stands.2.plan) (record {
       table = stands.1;
       channels = stands.2.channels_stay ∙ stands.2.channels_are;
       at = stands.4;
@@ -201,13 +180,8 @@ keep-requires-clause-may g c =
     let current = g.E.Env.current env in
     let begun = g.K.Sink.told first.sink.now in
     let told = g.K.Sink.told self.sink.now in
-    let same = ap (λ (l : Lent). l.map) stands.0 in
-    let same_stalls = ap (λ (l : Lent). l.stalls) stands.0 in
-    let same_times = ap (λ (l : Lent). l.times) stands.0 in
-    let same_cycles = ap (λ (l : Lent). l.cycles) stands.0 in
-    let k = own first.map.now m first.stalls.now stalls first.resets.now times first.cycles cycles same same_stalls same_times same_cycles begun
-    told stands_for (g.E.Env.offer (g.E.Env.plan first.env.now)) offer given current cells past here row
-    (ap g.E.Env.offer stands.2.plan) (record {
+    let k = own first.map.now m first.stalls.now stalls first.resets.now times first.cycles cycles _ _ _ _ _ _ stands.0 begun told stands_for
+    (g.E.Env.offer (g.E.Env.plan first.env.now)) offer given current cells past here row (ap g.E.Env.offer stands.2.plan) (record {
       table = stands.1;
       channels = stands.2.channels_stay ∙ stands.2.channels_are;
       at = stands.4;
@@ -239,13 +213,8 @@ keep-requires-clause-end g c =
     let current = g.E.Env.current env in
     let begun = g.K.Sink.told first.sink.now in
     let told = g.K.Sink.told self.sink.now in
-    let same = ap (λ (l : Lent). l.map) stands.0 in
-    let same_stalls = ap (λ (l : Lent). l.stalls) stands.0 in
-    let same_times = ap (λ (l : Lent). l.times) stands.0 in
-    let same_cycles = ap (λ (l : Lent). l.cycles) stands.0 in
-    let k = own first.map.now m first.stalls.now stalls first.resets.now times first.cycles cycles same same_stalls same_times same_cycles begun
-    told stands_for (g.E.Env.offer (g.E.Env.plan first.env.now)) offer given current cells past here row
-    (ap g.E.Env.offer stands.2.plan) (record {
+    let k = own first.map.now m first.stalls.now stalls first.resets.now times first.cycles cycles _ _ _ _ _ _ stands.0 begun told stands_for
+    (g.E.Env.offer (g.E.Env.plan first.env.now)) offer given current cells past here row (ap g.E.Env.offer stands.2.plan) (record {
       table = stands.1;
       channels = stands.2.channels_stay ∙ stands.2.channels_are;
       at = stands.4;
@@ -277,13 +246,8 @@ keep-requires-clause-count g c =
     let current = g.E.Env.current env in
     let begun = g.K.Sink.told first.sink.now in
     let told = g.K.Sink.told self.sink.now in
-    let same = ap (λ (l : Lent). l.map) stands.0 in
-    let same_stalls = ap (λ (l : Lent). l.stalls) stands.0 in
-    let same_times = ap (λ (l : Lent). l.times) stands.0 in
-    let same_cycles = ap (λ (l : Lent). l.cycles) stands.0 in
-    let k = own first.map.now m first.stalls.now stalls first.resets.now times first.cycles cycles same same_stalls same_times same_cycles begun
-    told stands_for (g.E.Env.offer (g.E.Env.plan first.env.now)) offer given current cells past here row
-    (ap g.E.Env.offer stands.2.plan) (record {
+    let k = own first.map.now m first.stalls.now stalls first.resets.now times first.cycles cycles _ _ _ _ _ _ stands.0 begun told stands_for
+    (g.E.Env.offer (g.E.Env.plan first.env.now)) offer given current cells past here row (ap g.E.Env.offer stands.2.plan) (record {
       table = stands.1;
       channels = stands.2.channels_stay ∙ stands.2.channels_are;
       at = stands.4;
@@ -315,13 +279,8 @@ restart-requires-clause-may g c =
     let current = g.E.Env.current env in
     let begun = g.K.Sink.told first.sink.now in
     let told = g.K.Sink.told self.sink.now in
-    let same = ap (λ (l : Lent). l.map) stands.0 in
-    let same_stalls = ap (λ (l : Lent). l.stalls) stands.0 in
-    let same_times = ap (λ (l : Lent). l.times) stands.0 in
-    let same_cycles = ap (λ (l : Lent). l.cycles) stands.0 in
-    let k = own first.map.now m first.stalls.now stalls first.resets.now times first.cycles cycles same same_stalls same_times same_cycles begun
-    told stands_for (g.E.Env.offer (g.E.Env.plan first.env.now)) offer given current cells past here row
-    (ap g.E.Env.offer stands.2.plan) (record {
+    let k = own first.map.now m first.stalls.now stalls first.resets.now times first.cycles cycles _ _ _ _ _ _ stands.0 begun told stands_for
+    (g.E.Env.offer (g.E.Env.plan first.env.now)) offer given current cells past here row (ap g.E.Env.offer stands.2.plan) (record {
       table = stands.1;
       channels = stands.2.channels_stay ∙ stands.2.channels_are;
       at = stands.4;
@@ -329,12 +288,10 @@ restart-requires-clause-may g c =
     }) in
     let lasts = lasting m.channels given offer k.channels (g.met.E.Env.fits env) (g.met.E.Env.stays env) in
     let t = c.args.cycle in
-    let emitted = c.keep.new.cells.room in
     let put = ap (λ (b : Buffer ℕ). b.items) c.keep.ensures.store in
-    let comes = c.comes-comes.result in
-    let said = c.comes-comes.ensures in
-    let can = may-turn m offer stalls times cycles given begun told stands_for current cells past here row lasts k t long emitted c.keep.ensures.room comes c.keep.new.cells.resets said in
-    can
+    may-turn m offer stalls times cycles given begun told stands_for current cells past here row lasts k t long
+    c.keep.new.cells.room c.keep.ensures.room c.reset_comes-comes.result
+    c.keep.new.cells.resets c.reset_comes-comes.ensures
 
 pub restart-requires-clause-end : goal.restart-requires-clause-end
 restart-requires-clause-end g c =
@@ -359,20 +316,16 @@ restart-requires-clause-end g c =
     let current = g.E.Env.current env in
     let begun = g.K.Sink.told first.sink.now in
     let told = g.K.Sink.told self.sink.now in
-    let same = ap (λ (l : Lent). l.map) stands.0 in
-    let same_stalls = ap (λ (l : Lent). l.stalls) stands.0 in
-    let same_times = ap (λ (l : Lent). l.times) stands.0 in
-    let same_cycles = ap (λ (l : Lent). l.cycles) stands.0 in
-    let k = own first.map.now m first.stalls.now stalls first.resets.now times first.cycles cycles same same_stalls same_times same_cycles begun
-    told stands_for (g.E.Env.offer (g.E.Env.plan first.env.now)) offer given current cells past here row
-    (ap g.E.Env.offer stands.2.plan) (record {
+    let k = own first.map.now m first.stalls.now stalls first.resets.now times first.cycles cycles _ _ _ _ _ _ stands.0 begun told stands_for
+    (g.E.Env.offer (g.E.Env.plan first.env.now)) offer given current cells past here row (ap g.E.Env.offer stands.2.plan) (record {
       table = stands.1;
       channels = stands.2.channels_stay ∙ stands.2.channels_are;
       at = stands.4;
       ruled = ruled;
     }) in
     let lasts = lasting m.channels given offer k.channels (g.met.E.Env.fits env) (g.met.E.Env.stays env) in
-    end-after (has_event row) c.args.cycle cells.end c.keep.new.cells.end c.keep.ensures.end (ended-within m offer stalls times cycles given begun told stands_for current cells past here row lasts k c.args.cycle long)
+    end-after (has_event row) c.args.cycle cells.end c.keep.new.cells.end c.keep.ensures.end
+    (ended-within m offer stalls times cycles given begun told stands_for current cells past here row lasts k c.args.cycle long)
 
 pub restart-requires-clause-count : goal.restart-requires-clause-count
 restart-requires-clause-count g c =
@@ -397,20 +350,16 @@ restart-requires-clause-count g c =
     let current = g.E.Env.current env in
     let begun = g.K.Sink.told first.sink.now in
     let told = g.K.Sink.told self.sink.now in
-    let same = ap (λ (l : Lent). l.map) stands.0 in
-    let same_stalls = ap (λ (l : Lent). l.stalls) stands.0 in
-    let same_times = ap (λ (l : Lent). l.times) stands.0 in
-    let same_cycles = ap (λ (l : Lent). l.cycles) stands.0 in
-    let k = own first.map.now m first.stalls.now stalls first.resets.now times first.cycles cycles same same_stalls same_times same_cycles begun
-    told stands_for (g.E.Env.offer (g.E.Env.plan first.env.now)) offer given current cells past here row
-    (ap g.E.Env.offer stands.2.plan) (record {
+    let k = own first.map.now m first.stalls.now stalls first.resets.now times first.cycles cycles _ _ _ _ _ _ stands.0 begun told stands_for
+    (g.E.Env.offer (g.E.Env.plan first.env.now)) offer given current cells past here row (ap g.E.Env.offer stands.2.plan) (record {
       table = stands.1;
       channels = stands.2.channels_stay ∙ stands.2.channels_are;
       at = stands.4;
       ruled = ruled;
     }) in
     let lasts = lasting m.channels given offer k.channels (g.met.E.Env.fits env) (g.met.E.Env.stays env) in
-    count-after (has_event row) c.args.cycle cells.packets c.keep.new.cells.packets c.keep.ensures.count (packets-within m offer stalls times cycles given begun told stands_for current cells past here row lasts k c.args.cycle long)
+    count-after (has_event row) c.args.cycle cells.packets c.keep.new.cells.packets c.keep.ensures.count
+    (packets-within m offer stalls times cycles given begun told stands_for current cells past here row lasts k c.args.cycle long)
 
 pub restart-requires-clause-waits : goal.restart-requires-clause-waits
 restart-requires-clause-waits g c =
@@ -435,13 +384,8 @@ restart-requires-clause-waits g c =
     let current = g.E.Env.current env in
     let begun = g.K.Sink.told first.sink.now in
     let told = g.K.Sink.told self.sink.now in
-    let same = ap (λ (l : Lent). l.map) stands.0 in
-    let same_stalls = ap (λ (l : Lent). l.stalls) stands.0 in
-    let same_times = ap (λ (l : Lent). l.times) stands.0 in
-    let same_cycles = ap (λ (l : Lent). l.cycles) stands.0 in
-    let k = own first.map.now m first.stalls.now stalls first.resets.now times first.cycles cycles same same_stalls same_times same_cycles begun
-    told stands_for (g.E.Env.offer (g.E.Env.plan first.env.now)) offer given current cells past here row
-    (ap g.E.Env.offer stands.2.plan) (record {
+    let k = own first.map.now m first.stalls.now stalls first.resets.now times first.cycles cycles _ _ _ _ _ _ stands.0 begun told stands_for
+    (g.E.Env.offer (g.E.Env.plan first.env.now)) offer given current cells past here row (ap g.E.Env.offer stands.2.plan) (record {
       table = stands.1;
       channels = stands.2.channels_stay ∙ stands.2.channels_are;
       at = stands.4;
@@ -449,9 +393,10 @@ restart-requires-clause-waits g c =
     }) in
     let lasts = lasting m.channels given offer k.channels (g.met.E.Env.fits env) (g.met.E.Env.stays env) in
     let t = c.args.cycle in
-    let emitted = c.keep.new.cells.room in
     let put = ap (λ (b : Buffer ℕ). b.items) c.keep.ensures.store in
-    waits-mid m offer stalls times cycles given begun told stands_for current cells past here row lasts k t long emitted c.keep.ensures.room c.keep.new.cells.store.items put
+    waits-mid m offer stalls times cycles given begun told stands_for current cells past here row lasts k t long
+    c.keep.new.cells.room c.keep.ensures.room
+    c.keep.new.cells.store.items put
 
 pub give-requires-clause-waits : goal.give-requires-clause-waits
 give-requires-clause-waits g c =
@@ -476,13 +421,8 @@ give-requires-clause-waits g c =
     let current = g.E.Env.current env in
     let begun = g.K.Sink.told first.sink.now in
     let told = g.K.Sink.told self.sink.now in
-    let same = ap (λ (l : Lent). l.map) stands.0 in
-    let same_stalls = ap (λ (l : Lent). l.stalls) stands.0 in
-    let same_times = ap (λ (l : Lent). l.times) stands.0 in
-    let same_cycles = ap (λ (l : Lent). l.cycles) stands.0 in
-    let k = own first.map.now m first.stalls.now stalls first.resets.now times first.cycles cycles same same_stalls same_times same_cycles begun
-    told stands_for (g.E.Env.offer (g.E.Env.plan first.env.now)) offer given current cells past here row
-    (ap g.E.Env.offer stands.2.plan) (record {
+    let k = own first.map.now m first.stalls.now stalls first.resets.now times first.cycles cycles _ _ _ _ _ _ stands.0 begun told stands_for
+    (g.E.Env.offer (g.E.Env.plan first.env.now)) offer given current cells past here row (ap g.E.Env.offer stands.2.plan) (record {
       table = stands.1;
       channels = stands.2.channels_stay ∙ stands.2.channels_are;
       at = stands.4;
@@ -490,16 +430,23 @@ give-requires-clause-waits g c =
     }) in
     let lasts = lasting m.channels given offer k.channels (g.met.E.Env.fits env) (g.met.E.Env.stays env) in
     let t = c.args.cycle in
-    let emitted = c.keep.new.cells.room in
     let put = ap (λ (b : Buffer ℕ). b.items) c.keep.ensures.store in
-    let comes = c.comes-comes.result in
-    let said = c.comes-comes.ensures in
-    let next = comes-is m offer stalls times cycles given begun told stands_for current cells past here row lasts k t long emitted c.keep.ensures.room comes c.keep.new.cells.resets c.keep.ensures.resets said in
-    let can = may-turn m offer stalls times cycles given begun told stands_for current cells past here row lasts k t long emitted c.keep.ensures.room comes c.keep.new.cells.resets said in
-    let mid = c.restart.new.cells.room in
-    let put_reset = ap (λ (b : Buffer ℕ). b.items) c.restart.ensures.store in
-    waits-now m offer stalls times cycles given begun told stands_for current cells past here row lasts k t long emitted c.keep.ensures.room
-    mid c.restart.new.cells.store.items c.keep.new.cells.store.items comes c.keep.new.cells.end next can put c.keep.ensures.end c.restart.ensures.room put_reset
+    let comes = c.reset_comes-comes.result in
+    let said = c.reset_comes-comes.ensures in
+    let p : Puts m.channels (plan_of stalls times) times cycles rows row t cells c.keep.new.cells c.restart.new.cells comes = record {
+      is = c.keep.ensures.room;
+      put = put;
+      ended = c.keep.ensures.end;
+      said = comes-is m offer stalls times cycles given begun told stands_for current cells past here row lasts k t long
+          c.keep.new.cells.room c.keep.ensures.room comes c.keep.new.cells.resets
+          c.keep.ensures.resets said;
+      can = may-turn m offer stalls times cycles given begun told stands_for current cells past here row lasts k t long
+          c.keep.new.cells.room c.keep.ensures.room comes c.keep.new.cells.resets said;
+      restarted = c.restart.ensures.room;
+      put_reset = ap (λ (b : Buffer ℕ). b.items) c.restart.ensures.store;
+    } in
+    waits-now m offer stalls times cycles given begun told stands_for current cells past here row lasts k t long
+    c.keep.new.cells c.restart.new.cells comes p
 
 pub returns-in_err-give-clause-broke : goal.returns-in_err-give-clause-broke
 returns-in_err-give-clause-broke g c =
@@ -519,13 +466,8 @@ returns-in_err-give-clause-broke g c =
     let current = g.E.Env.current env in
     let begun = g.K.Sink.told first.sink.now in
     let told = g.K.Sink.told self.sink.now in
-    let same = ap (λ (l : Lent). l.map) stands.0 in
-    let same_stalls = ap (λ (l : Lent). l.stalls) stands.0 in
-    let same_times = ap (λ (l : Lent). l.times) stands.0 in
-    let same_cycles = ap (λ (l : Lent). l.cycles) stands.0 in
-    let k = own first.map.now m first.stalls.now stalls first.resets.now times first.cycles cycles same same_stalls same_times same_cycles begun
-    told stands_for (g.E.Env.offer (g.E.Env.plan first.env.now)) offer given current cells past here row
-    (ap g.E.Env.offer stands.2.plan) (record {
+    let k = own first.map.now m first.stalls.now stalls first.resets.now times first.cycles cycles _ _ _ _ _ _ stands.0 begun told stands_for
+    (g.E.Env.offer (g.E.Env.plan first.env.now)) offer given current cells past here row (ap g.E.Env.offer stands.2.plan) (record {
       table = stands.1;
       channels = stands.2.channels_stay ∙ stands.2.channels_are;
       at = stands.4;
@@ -533,30 +475,40 @@ returns-in_err-give-clause-broke g c =
     }) in
     let lasts = lasting m.channels given offer k.channels (g.met.E.Env.fits env) (g.met.E.Env.stays env) in
     let t = c.args.cycle in
-    let emitted = c.keep.new.cells.room in
     let put = ap (λ (b : Buffer ℕ). b.items) c.keep.ensures.store in
-    let comes = c.comes-comes.result in
-    let said = c.comes-comes.ensures in
-    let next = comes-is m offer stalls times cycles given begun told stands_for current cells past here row lasts k t long emitted c.keep.ensures.room comes c.keep.new.cells.resets c.keep.ensures.resets said in
-    let can = may-turn m offer stalls times cycles given begun told stands_for current cells past here row lasts k t long emitted c.keep.ensures.room comes c.keep.new.cells.resets said in
-    let mid = c.restart.new.cells.room in
-    let put_reset = ap (λ (b : Buffer ℕ). b.items) c.restart.ensures.store in
-    (
+    let comes = c.reset_comes-comes.result in
+    let said = c.reset_comes-comes.ensures in
+    let p : Puts m.channels (plan_of stalls times) times cycles rows row t cells c.keep.new.cells c.restart.new.cells comes = record {
+      is = c.keep.ensures.room;
+      put = put;
+      ended = c.keep.ensures.end;
+      said = comes-is m offer stalls times cycles given begun told stands_for current cells past here row lasts k t long
+          c.keep.new.cells.room c.keep.ensures.room comes c.keep.new.cells.resets
+          c.keep.ensures.resets said;
+      can = may-turn m offer stalls times cycles given begun told stands_for current cells past here row lasts k t long
+          c.keep.new.cells.room c.keep.ensures.room comes c.keep.new.cells.resets said;
+      restarted = c.restart.ensures.room;
+      put_reset = ap (λ (b : Buffer ℕ). b.items) c.restart.ensures.store;
+    } in (
       stands.0,
-      record { plan = c.commit.ensures.plan ∙ stands.2.plan; channels_are = stands.2.channels_are; channels_stay = c.commit.ensures.channels ∙ stands.2.channels_stay },
+      record {
+        plan = c.commit.ensures.plan ∙ stands.2.plan;
+        channels_are = stands.2.channels_are;
+        channels_stay = c.commit.ensures.channels ∙ stands.2.channels_stay;
+      },
       record {
         later = let a = stands.3.later in let b = c.in_err-give.ensures.cause.later in omega (arith, a, b);
         place_is = c.give.ensures.place ∙ stands.3.place_is;
         frame = λ f h. c.give.ensures.frame f (stands.3.frame f h);
       },
       (let a = stands.3.later in let b = c.in_err-give.ensures.cause.failed in omega (arith, a, b)),
-      breaks-back first.map.now m first.stalls.now stalls first.resets.now times first.cycles cycles same same_stalls same_times same_cycles begun
+      breaks-back first.map.now m first.stalls.now stalls first.resets.now times first.cycles cycles _ _ _ _ _ _ stands.0 begun
           (g.K.Sink.told c.give.new.sink) (g.E.Env.stands_for c.commit.new.self) (all_rows past (here ++ row ∷ []))
           (subst (BreaksAt m.channels (plan_of stalls times) times cycles begun (g.K.Sink.told c.give.new.sink)
           (g.E.Env.stands_for c.commit.new.self)) (more past here row) (record {
             played = c.commit.ensures.rows rows k.at.far.played;
-            cut = cut-now m offer stalls times cycles given begun told stands_for current cells past here row lasts k t long emitted c.keep.ensures.room
-    mid c.restart.new.cells.store.items c.keep.new.cells.store.items comes c.keep.new.cells.end next can put c.keep.ensures.end c.restart.ensures.room put_reset
+            cut = cut-now m offer stalls times cycles given begun told stands_for current cells past here row lasts k t long
+                c.keep.new.cells c.restart.new.cells comes p
                 (g.K.Sink.told c.give.new.sink) c.allowance.result c.allowance.ensures c.in_err-give.ensures.err;
           })),
     )))
@@ -584,13 +536,8 @@ offer-requires-clause-fits g c =
     let current = g.E.Env.current env in
     let begun = g.K.Sink.told first.sink.now in
     let told = g.K.Sink.told self.sink.now in
-    let same = ap (λ (l : Lent). l.map) stands.0 in
-    let same_stalls = ap (λ (l : Lent). l.stalls) stands.0 in
-    let same_times = ap (λ (l : Lent). l.times) stands.0 in
-    let same_cycles = ap (λ (l : Lent). l.cycles) stands.0 in
-    let k = own first.map.now m first.stalls.now stalls first.resets.now times first.cycles cycles same same_stalls same_times same_cycles begun
-    told stands_for (g.E.Env.offer (g.E.Env.plan first.env.now)) offer given current cells past here row
-    (ap g.E.Env.offer stands.2.plan) (record {
+    let k = own first.map.now m first.stalls.now stalls first.resets.now times first.cycles cycles _ _ _ _ _ _ stands.0 begun told stands_for
+    (g.E.Env.offer (g.E.Env.plan first.env.now)) offer given current cells past here row (ap g.E.Env.offer stands.2.plan) (record {
       table = stands.1;
       channels = stands.2.channels_stay ∙ stands.2.channels_are;
       at = stands.4;
@@ -623,13 +570,8 @@ returns-clause-stands g c first past here long stands ruled =
     let current = g.E.Env.current env in
     let begun = g.K.Sink.told first.sink.now in
     let told = g.K.Sink.told self.sink.now in
-    let same = ap (λ (l : Lent). l.map) stands.0 in
-    let same_stalls = ap (λ (l : Lent). l.stalls) stands.0 in
-    let same_times = ap (λ (l : Lent). l.times) stands.0 in
-    let same_cycles = ap (λ (l : Lent). l.cycles) stands.0 in
-    let k = own first.map.now m first.stalls.now stalls first.resets.now times first.cycles cycles same same_stalls same_times same_cycles begun
-    told stands_for (g.E.Env.offer (g.E.Env.plan first.env.now)) offer given current cells past here row
-    (ap g.E.Env.offer stands.2.plan) (record {
+    let k = own first.map.now m first.stalls.now stalls first.resets.now times first.cycles cycles _ _ _ _ _ _ stands.0 begun told stands_for
+    (g.E.Env.offer (g.E.Env.plan first.env.now)) offer given current cells past here row (ap g.E.Env.offer stands.2.plan) (record {
       table = stands.1;
       channels = stands.2.channels_stay ∙ stands.2.channels_are;
       at = stands.4;
@@ -637,14 +579,21 @@ returns-clause-stands g c first past here long stands ruled =
     }) in
     let lasts = lasting m.channels given offer k.channels (g.met.E.Env.fits env) (g.met.E.Env.stays env) in
     let t = c.args.cycle in
-    let emitted = c.keep.new.cells.room in
     let put = ap (λ (b : Buffer ℕ). b.items) c.keep.ensures.store in
-    let comes = c.comes-comes.result in
-    let said = c.comes-comes.ensures in
-    let next = comes-is m offer stalls times cycles given begun told stands_for current cells past here row lasts k t long emitted c.keep.ensures.room comes c.keep.new.cells.resets c.keep.ensures.resets said in
-    let can = may-turn m offer stalls times cycles given begun told stands_for current cells past here row lasts k t long emitted c.keep.ensures.room comes c.keep.new.cells.resets said in
-    let mid = c.restart.new.cells.room in
-    let put_reset = ap (λ (b : Buffer ℕ). b.items) c.restart.ensures.store in
+    let comes = c.reset_comes-comes.result in
+    let said = c.reset_comes-comes.ensures in
+    let p : Puts m.channels (plan_of stalls times) times cycles rows row t cells c.keep.new.cells c.restart.new.cells comes = record {
+      is = c.keep.ensures.room;
+      put = put;
+      ended = c.keep.ensures.end;
+      said = comes-is m offer stalls times cycles given begun told stands_for current cells past here row lasts k t long
+          c.keep.new.cells.room c.keep.ensures.room comes c.keep.new.cells.resets
+          c.keep.ensures.resets said;
+      can = may-turn m offer stalls times cycles given begun told stands_for current cells past here row lasts k t long
+          c.keep.new.cells.room c.keep.ensures.room comes c.keep.new.cells.resets said;
+      restarted = c.restart.ensures.room;
+      put_reset = ap (λ (b : Buffer ℕ). b.items) c.restart.ensures.store;
+    } in
     let then = c.commit.new.self in
     let later = g.E.Env.offer (g.E.Env.plan then) in
     let lasts_then = lasting m.channels (g.E.Env.channels then) later (c.commit.ensures.channels ∙ k.channels) (g.met.E.Env.fits then)
@@ -652,31 +601,36 @@ returns-clause-stands g c first past here long stands ruled =
     let played = c.commit.ensures.rows rows k.at.far.played in
     let fits = fits-now m.channels later (g.E.Env.current then) (rows ++ row ∷ []) lasts_then
     (g.met.E.Env.offers_now then (rows ++ row ∷ []) played) in
-    let sizes_stay = c.give.ensures.room.sizes ∙ kept_sizes comes emitted mid c.restart.ensures.room ∙ c.keep.ensures.room.sizes
-    ∙ (some m offer stalls times cycles given begun told stands_for current cells past here row lasts k).stands.channels in
     let going = some m offer stalls times cycles given begun told stands_for current cells past here row lasts k in
+    let fresh = sym c.restart.ensures.fresh in
+    let sizes_stay = c.give.ensures.room.sizes ∙ kept_sizes comes c.keep.new.cells.room c.restart.new.cells.room p.restarted
+    ∙ c.keep.ensures.room.sizes ∙ going.stands.channels in
     let at : IsAsFar m.channels (plan_of stalls times) begun (g.K.Sink.told c.give.new.sink) (g.E.Env.stands_for then) (g.E.Env.current then) _
     (rows ++ row ∷ []) = record {
       header = k.at.far.header;
       played = played;
       going = λ start begins. subst (λ b. Going m.channels (plan_of stalls times) start (rows ++ row ∷ []) b c.give.new.room
-          c.give.new.store.items (g.K.Sink.told c.give.new.sink) c.restart.new.cells.packets) (sym c.restart.ensures.fresh)
-          (going-more m offer stalls times cycles given begun told stands_for current cells past here row lasts k t long emitted c.keep.ensures.room
-    mid c.restart.new.cells.store.items c.keep.new.cells.store.items comes c.keep.new.cells.end next can put c.keep.ensures.end c.restart.ensures.room put_reset c.give.new.room c.give.new.store.items
-          (g.K.Sink.told c.give.new.sink) c.allowance.result c.keep.new.cells.packets c.restart.new.cells.packets c.allowance.ensures c.give.ensures.room
+          c.give.new.store.items (g.K.Sink.told c.give.new.sink) c.restart.new.cells.packets) fresh
+          (going-more m offer stalls times cycles given begun told stands_for current cells past here row lasts k t long
+          c.keep.new.cells c.restart.new.cells comes p c.give.new.room c.give.new.store.items (g.K.Sink.told c.give.new.sink)
+          c.allowance.result c.keep.new.cells.packets c.restart.new.cells.packets c.allowance.ensures c.give.ensures.room
           (ap (λ (b : Buffer ℕ). b.items) c.give.ensures.rest) c.in_ok-give.ensures.ok c.keep.ensures.count c.restart.ensures.count start begins);
-      ends = ends-now m offer stalls times cycles given begun told stands_for current cells past here row lasts k t long emitted c.keep.ensures.room
-    mid c.restart.new.cells.store.items c.keep.new.cells.store.items comes c.keep.new.cells.end next can put c.keep.ensures.end c.restart.ensures.room put_reset c.restart.new.cells.end c.restart.ensures.end ∙ ap (end_so_far (rows ++ row ∷ [])) (sym c.restart.ensures.fresh);
-      came = came-now m offer stalls times cycles given begun told stands_for current cells past here row lasts k t long emitted c.keep.ensures.room
-    mid c.restart.new.cells.store.items c.keep.new.cells.store.items comes c.keep.new.cells.end next can put c.keep.ensures.end c.restart.ensures.room put_reset c.restart.new.cells.resets c.keep.new.cells.resets c.keep.ensures.resets c.restart.ensures.resets
-          ∙ ap (λ b. restarts (rows ++ row ∷ []) + cond b 1 0) (sym c.restart.ensures.fresh);
+      ends = ends-now m offer stalls times cycles given begun told stands_for current cells past here row lasts k t long
+          c.keep.new.cells c.restart.new.cells comes p c.restart.new.cells.end c.restart.ensures.end
+          ∙ ap (end_so_far (rows ++ row ∷ [])) fresh;
+      came = came-now m offer stalls times cycles given begun told stands_for current cells past here row lasts k t long
+          c.keep.new.cells c.restart.new.cells comes p c.restart.new.cells.resets c.keep.new.cells.resets
+          c.keep.ensures.resets c.restart.ensures.resets ∙ ap (λ b. restarts (rows ++ row ∷ []) + cond b 1 0) fresh;
       sizes = record {
         store = ap (λ (b : Buffer ℕ). b.capacity) c.give.ensures.rest ∙ ap (λ (b : Buffer ℕ). b.capacity) c.restart.ensures.store
             ∙ ap (λ (b : Buffer ℕ). b.capacity) c.keep.ensures.store ∙ k.at.far.sizes.store;
-        used = let a = c.give.ensures.room.used in let b = c.restart.ensures.within in let d = c.keep.ensures.room.capacity in omega (arith, a, b, d, going.stands.capacity);
+        used = let a = c.give.ensures.room.used in
+            let b = c.restart.ensures.within in
+            let d = c.keep.ensures.room.capacity in
+            omega (arith, a, b, d, going.stands.capacity);
         out_len = written-len _ c.give.new.out c.restart.new.cells.out.items (c.give.auto.out ∙ ap length c.as_mut_slice.ensures.value)
-            (sym (ap length c.as_mut_slice.ensures.value) ∙ c.as_mut_slice.ensures.len) ∙ ap (λ (v : Vec ℕ). length v.items) (c.restart.ensures.out ∙ c.keep.ensures.out)
-            ∙ k.at.far.sizes.out_len;
+            (sym (ap length c.as_mut_slice.ensures.value) ∙ c.as_mut_slice.ensures.len)
+            ∙ ap (λ (v : Vec ℕ). length v.items) (c.restart.ensures.out ∙ c.keep.ensures.out) ∙ k.at.far.sizes.out_len;
         offers_len = given-long m.channels (g.E.Env.current then) c.offer.new.given c.offer.ensures.offers fits;
       };
       offers = c.offer.ensures.offers;
@@ -685,18 +639,22 @@ returns-clause-stands g c first past here long stands ruled =
     } in (
       stands.0,
       stands.1,
-      record { plan = c.commit.ensures.plan ∙ stands.2.plan; channels_are = stands.2.channels_are; channels_stay = c.commit.ensures.channels ∙ stands.2.channels_stay },
+      record {
+        plan = c.commit.ensures.plan ∙ stands.2.plan;
+        channels_are = stands.2.channels_are;
+        channels_stay = c.commit.ensures.channels ∙ stands.2.channels_stay;
+      },
       record {
         later = let a = stands.3.later in let b = c.give.ensures.cause.later in omega (arith, a, b);
         place_is = c.give.ensures.place ∙ stands.3.place_is;
         frame = λ f h. c.give.ensures.frame f (stands.3.frame f h);
       },
-      stands-back first.map.now m first.stalls.now stalls first.resets.now times first.cycles cycles same same_stalls same_times same_cycles begun
+      stands-back first.map.now m first.stalls.now stalls first.resets.now times first.cycles cycles _ _ _ _ _ _ stands.0 begun
           (g.K.Sink.told c.give.new.sink) (g.E.Env.stands_for then) (g.E.Env.current then) _ past (here ++ row ∷ []) (record {
             far = subst (IsAsFar m.channels (plan_of stalls times) begun (g.K.Sink.told c.give.new.sink) (g.E.Env.stands_for then)
                 (g.E.Env.current then) _) (more past here row) at;
-            next = subst (IsNextFresh m.channels (plan_of stalls times) times cycles past (here ++ row ∷ [])) (sym c.restart.ensures.fresh)
-                (next-now m offer stalls times cycles given begun told stands_for current cells past here row lasts k t long emitted c.keep.ensures.room
-    mid c.restart.new.cells.store.items c.keep.new.cells.store.items comes c.keep.new.cells.end next can put c.keep.ensures.end c.restart.ensures.room put_reset);
+            next = subst (IsNextFresh m.channels (plan_of stalls times) times cycles past (here ++ row ∷ [])) fresh
+                (next-now m offer stalls times cycles given begun told stands_for current cells past here row lasts k t long
+                c.keep.new.cells c.restart.new.cells comes p);
           }),
     )

@@ -1,0 +1,2 @@
+mod Masters
+pub mod PortNets

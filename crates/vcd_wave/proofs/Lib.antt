@@ -1,0 +1,5 @@
+pub mod PathLaws
+pub mod Numbers
+pub mod Lines
+pub mod Growing
+pub mod Going
