@@ -203,7 +203,9 @@ fn kind_behind(
 {
     match (stop_of(second, here), outcome) {
         (Stop::Ended { len }, ReplayOutcome::Ended { cycles }) => {
-            Some(kind_if(*cycles as usize == before.wrapping_add(len), ENDED))
+            // There is a row behind the reset, also where nothing is recorded there.
+            let rows = if len == 0 { 1 } else { len };
+            Some(kind_if(*cycles as usize == before.wrapping_add(rows), ENDED))
         }
         (Stop::Short { .. }, ReplayOutcome::Short { held, waits }) => {
             let lists = are_last_lists(alloc, second, here, held.as_slice(), waits.as_slice())?;
