@@ -4,7 +4,9 @@ ghost use Rattle.std.specs.Prelude.{◌≤◌};
 ghost use Rattle.replay_run.specs.trace_code.Encoding.{HasEncoding};
 ghost use Rattle.run_reference.specs.trace_model.declared.packet.TheConstants.{MOST_CYCLES};
 
-use crate::agreeing::{Stop, answer_from, decoded, is_out, recorded, rows_of, shown, stop_of, trace_with};
+use crate::agreeing::{
+    Stop, answer_from, decoded, is_out, recorded, rows_of, shown, stop_of, trace_with,
+};
 use crate::traces::{drawn_epochs, drawn_trace, trace_of};
 use replay_run::ReplayOutcome;
 use run_reference::run_model::{Await, Awaits, Held};
@@ -109,9 +111,7 @@ fn are_last_lists(
     let packets = trace.packets.as_slice();
     let due = held(alloc, channels, packets, rows).ok()?;
     let due_events = waits(alloc, channels, packets, rows).ok()?;
-    Some(
-        are_helds_moved(helds, due.as_slice(), 1) && are_moved(events, due_events.as_slice(), 1),
-    )
+    Some(are_helds_moved(helds, due.as_slice(), 1) && are_moved(events, due_events.as_slice(), 1))
 }
 
 /// Whether the rows show all that comes of channel `c` before the reset behind the epoch.
@@ -203,7 +203,9 @@ fn kind_behind(
 {
     match (stop_of(second, here), outcome) {
         (Stop::Ended { len }, ReplayOutcome::Ended { cycles }) => {
-            Some(kind_if(*cycles as usize == before.wrapping_add(len), ENDED))
+            // There is a row behind the reset, also where nothing is recorded there.
+            let rows = if len == 0 { 1 } else { len };
+            Some(kind_if(*cycles as usize == before.wrapping_add(rows), ENDED))
         }
         (Stop::Short { .. }, ReplayOutcome::Short { held, waits }) => {
             let lists = are_last_lists(alloc, second, here, held.as_slice(), waits.as_slice())?;
@@ -283,8 +285,7 @@ const FIRST: &[u8] = b"\x01\x00\x00\x01\x01\x05\x00\x00\x00\x00\x01";
 const IN_FLIGHT: &[u8] =
     b"\x01\x00\x00\x01\x01\x05\x01\x00\x00\x03\x00\x06\x05\x00\x00\x00\x00\x02";
 
-const SECOND: &[u8] =
-    b"\x01\x00\x00\x01\x01\x06\x01\x00\x00\x02\x02\x06\x00\x00\x00\x00\x02";
+const SECOND: &[u8] = b"\x01\x00\x00\x01\x01\x06\x01\x00\x00\x02\x02\x06\x00\x00\x00\x00\x02";
 
 /// How the replay of these packets ends, which are those of two epochs.
 fn kind_known(alloc: Global, packets: &[u8], first: &[u8], cycles: u32) -> Option<u8>
@@ -293,7 +294,14 @@ fn kind_known(alloc: Global, packets: &[u8], first: &[u8], cycles: u32) -> Optio
     let bytes = trace_of(alloc, Sample::Pass, packets)?;
     let first = trace_with(alloc, Sample::Pass, first)?;
     let second = trace_with(alloc, Sample::Pass, SECOND)?;
-    kind_of(alloc, Sample::Pass, &first, &second, bytes.as_slice(), cycles)
+    kind_of(
+        alloc,
+        Sample::Pass,
+        &first,
+        &second,
+        bytes.as_slice(),
+        cycles,
+    )
 }
 
 #[test]
