@@ -143,8 +143,8 @@ module _ (d : Design) (m : Map) (offer : List Row → ℕ → Offer) (resets : L
     at,
     e ∙ sym (not-fresh at.past at.here asked),
     (λ some turn. (let l = length_all at.past at.here in let long = at.long in
-    let pos : 0 < cycle = omega (arith, l, long, some) in
-    false≢true (sym (none pos) ∙ sym (said-due resets resets came cycle at.past at.here refl at.came_is (sym at.long)) ∙ turn))),
+        let pos : 0 < cycle = omega (arith, l, long, some) in
+        false≢true (sym (none pos) ∙ sym (said-due resets resets came cycle at.past at.here refl at.came_is (sym at.long)) ∙ turn))),
   )
     where
       length_all : (past : List (List Row)) (here : List Row) → length (all_rows past here) ≡ length (rows_of past) + length here

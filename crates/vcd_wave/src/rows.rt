@@ -117,7 +117,13 @@ fn before_of(cycle: u32, numbers: &[u128]) -> Option<&[u128]>
 }
 
 /// Prints the row of a cycle that was driven: the numbers of its settled map, where they aren't those of the row before.
-fn print_seen<S: Watched, P: Page>(shell: &S, nets: &WaveNets, cycle: u32, tools: &mut Tools, page: &mut P)
+fn print_seen<S: Watched, P: Page>(
+    shell: &S,
+    nets: &WaveNets,
+    cycle: u32,
+    tools: &mut Tools,
+    page: &mut P,
+)
     requires nets { nets.now ≡ wave_nets (S.design shell.now) }
     requires driven { (row : OneRow) × S.driven shell.now row }
     requires now { length tools.old.now ≡ length nets.now }

@@ -51,7 +51,12 @@ impl Tools {
     ghost use Rattle.vcd_wave.specs.Tools.{AreTools};
 
     /// Those of an environment over these channels, for so many nets, before the first cycle. Only this call takes memory.
-    pub(crate) fn new<E: Env>(alloc: Global, env: &E, channels: &Channels, nets: usize) -> Result<Tools, Memory>
+    pub(crate) fn new<E: Env>(
+        alloc: Global,
+        env: &E,
+        channels: &Channels,
+        nets: usize,
+    ) -> Result<Tools, Memory>
         requires channels { E.channels env.now ≡ channels.now }
         requires few { length channels.now ≤ MOST_CHANNELS }
         requires fits { AllFit channels.now (E.current env.now) }
