@@ -1,14 +1,13 @@
 -- An AXI file that was bound to channels, and lacks nothing, has the ports of a memory.
-use Rattle.std.proofs.Common.{◌≡◌, ℕ, zero, suc, ◌+◌, ◌*◌, ◌==◌, ◌≤◌, ◌<◌, Bool, true, false, not, ◌&&◌, ◌||◌, cond, eqb, List, [], ◌∷◌, ◌++◌, length, take, get_or}
-use Rattle.std.proofs.Common.{All, Option, None, Some, IfSome, slice_get, refl, ap, sym, subst, ◌∙◌, arith, ⊎_elim, eqb-true, eq-eqb, ne_eqb, inl, inr}
-use Rattle.std.specs.Prelude.{◌≢◌, ◌⊎◌, option_and_then, find, is_none, is_some}
+use Rattle.std.proofs.Common.{◌≡◌, ℕ, zero, suc, ◌+◌, ◌*◌, ◌≤◌, ◌<◌, Bool, true, false, not, ◌&&◌, ◌||◌, cond, eqb, List, [], ◌∷◌, ◌++◌, length, take, get_or}
+use Rattle.std.proofs.Common.{All, Option, None, Some, IfSome, slice_get, refl, ap, sym, subst, ◌∙◌, arith, ⊎_elim, eqb-true, eq-eqb, ne_eqb}
+use Rattle.std.specs.Prelude.{option_and_then, find, is_none, is_some}
 use Rattle.std.specs.List.{list_all, list_any, range_with_len}
 use Rattle.std.specs.Option.{option_map}
 use Rattle.std.specs.Str.{bytes_eq}
 use Rattle.std.proofs.lemmas.Bool.{cases_lt, or_right}
-use Rattle.std.proofs.lemmas.Bool.Decides.{nat_tests}
 use Rattle.std.proofs.lemmas.List.Quantifiers.{position-Some}
-use Rattle.std.proofs.lemmas.Option.{get_or_from_slice_get, same_Some, slice_get-get_or, slice_get_within}
+use Rattle.std.proofs.lemmas.Option.{get_or_from_slice_get, same_Some, slice_get_within}
 use Rattle.std.proofs.lemmas.Slice.Eq.{bytes_eq-Decides}
 use Rattle.axi_burst.specs.declared.axi.AddressPorts.{AddressPorts}
 use Rattle.axi_burst.specs.declared.axi.Axi.{Axi}

@@ -1,13 +1,12 @@
 -- What stands for rows goes on by one more.
-use Rattle.std.proofs.Common.{◌≡◌, ℕ, ◌+◌, ◌-◌, ◌==◌, ◌≤◌, ◌<◌, ◌++◌, ◌||◌, Bool, true, false, not, cond, eqb, leb, ltb, List, [], ◌∷◌, length, reverse, take}
-use Rattle.std.proofs.Common.{Option, None, Some, is_none, is_some, refl, ap, sym, subst, ◌∙◌, ⊎_elim, arith, append-nil, length-append, ltb-true, leb-true, eqb-true}
+use Rattle.std.proofs.Common.{◌≡◌, ℕ, ◌+◌, ◌-◌, ◌==◌, ◌≤◌, ◌<◌, ◌++◌, ◌||◌, Bool, true, false, not, cond, List, [], ◌∷◌, length, reverse, take}
+use Rattle.std.proofs.Common.{Option, None, Some, is_none, is_some, refl, ap, sym, ◌∙◌, arith, append-nil, length-append, ltb-true, leb-true, eqb-true}
 use Rattle.std.specs.Prelude.{slice_get}
 use Rattle.std.specs.List.{position_or_len}
 use Rattle.std.specs.Option.{option_map}
-use Rattle.std.proofs.lemmas.Bool.{cases_Bool, cond-true, cond-false, not_from_false, not_from_true}
+use Rattle.std.proofs.lemmas.Bool.{cond-true, cond-false, not_from_false, not_from_true}
 use Rattle.std.proofs.lemmas.Bool.Decides.{nat_tests}
 use Rattle.std.proofs.lemmas.List.{reverse-append, take_all, take-append-le}
-use Rattle.axi_burst.specs.declared.axi.AddressPorts.{AddressPorts}
 use Rattle.axi_burst.specs.declared.transfers.Address.{Address}
 use Rattle.env_script.specs.trace_model.declared.row.Row.{Row}
 use Rattle.env_script.specs.trace_model.vidi_bits.Number.{has}

@@ -1,6 +1,6 @@
 -- What is kept of rows offers what the memory offers after them.
-use Rattle.std.proofs.Common.{◌≡◌, ℕ, ◌+◌, ◌≤◌, ◌<◌, ◌++◌, ◌&&◌, Bool, true, false, eqb, leb, ltb, List, [], ◌∷◌, length, Option, None, Some, is_none, is_some}
-use Rattle.std.proofs.Common.{refl, ap, sym, ◌∙◌, arith, length-append, ltb-true, leb-true, lt-ltb, le-ltb, le-leb, eq-eqb, ne_eqb}
+use Rattle.std.proofs.Common.{◌≡◌, ℕ, ◌+◌, ◌≤◌, ◌++◌, ◌&&◌, Bool, eqb, leb, ltb, List, [], ◌∷◌, length, Option, None, Some, is_none, is_some}
+use Rattle.std.proofs.Common.{ap, sym, ◌∙◌, arith, length-append, lt-ltb, le-ltb, eq-eqb, ne_eqb}
 use Rattle.std.specs.Prelude.{slice_get}
 use Rattle.std.proofs.lemmas.Bool.Decides.{nat_tests}
 use Rattle.std.proofs.lemmas.List.{length-map}
@@ -11,7 +11,7 @@ use Rattle.axi_burst.specs.Transfers.{begun_address}
 use Rattle.env_script.specs.trace_model.declared.row.Row.{Row}
 use Rattle.axi_memory.specs.declared.served.Served.{Served}
 use Rattle.axi_memory.specs.declared.turn.Turn.{Turn}
-use Rattle.axi_memory.specs.Memory.{Standing, asks_on, done, id_under, is_out, memory_offer, offer_of, read_asks, read_turn, standing_after, taken, turns, write_asks, write_beats}
+use Rattle.axi_memory.specs.Memory.{Standing, asks_on, done, id_under, offer_of, read_asks, standing_after, taken, turns, write_asks}
 use Rattle.axi_memory.specs.Stands.{IsReading, IsWriting, OffersAsKept, StandsFor, answers, id_of, standing, wants}
 use Rattle.axi_memory.proofs.Growing.{beat-at, get-behind, length-beats}
 

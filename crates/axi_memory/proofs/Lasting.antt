@@ -1,17 +1,15 @@
 -- What a memory offers fits its channels, and stays until it is taken.
-use Rattle.std.proofs.Common.{◌≡◌, ℕ, zero, suc, ◌+◌, ◌≤◌, ◌<◌, ◌%◌, ◌^◌, ◌==◌, ◌&&◌, ◌||◌, ◌++◌, Bool, true, false, not, ltb, leb, eqb, cond}
+use Rattle.std.proofs.Common.{◌≡◌, ℕ, ◌+◌, ◌≤◌, ◌%◌, ◌^◌, ◌&&◌, ◌++◌, Bool, true, false, ltb, leb, eqb, cond}
 use Rattle.std.proofs.Common.{List, [], ◌∷◌, map, length, take, Option, None, Some, is_none, is_some}
 use Rattle.std.proofs.Common.{refl, ap, sym, subst, ◌∙◌, arith, ltb-true, leb-true, le-leb, eqb-true, eq-eqb, ne_eqb, pow_pos, mod-lt}
-use Rattle.std.specs.Prelude.{◌≢◌, slice_get}
+use Rattle.std.specs.Prelude.{slice_get}
 use Rattle.std.specs.List.{enumerate_from, filter}
-use Rattle.std.proofs.lemmas.Bool.{cases_Bool, cond-true, cond-false, cond_both, and_parts, and_from, and_right, or_from}
+use Rattle.std.proofs.lemmas.Bool.{cond-true, cond-false, cond_both, and_parts, and_from, or_from}
 use Rattle.std.proofs.lemmas.List.{length-append, length-map}
 use Rattle.std.proofs.lemmas.List.Elements.{filter-append}
 use Rattle.axi_burst.specs.declared.axi_text.Role.{Role}
 use Rattle.axi_burst.specs.declared.axi_text.Role.TheVariants.{WriteAddress, WriteData, WriteResponse, ReadAddress, ReadData}
-use Rattle.axi_burst.specs.declared.transfers.Address.{Address}
 use Rattle.axi_burst.specs.Binding.{is_inward}
-use Rattle.axi_burst.specs.Transfers.{begun_address}
 use Rattle.env_script.specs.trace_model.declared.channel.Channel.{Channel}
 use Rattle.env_script.specs.trace_model.declared.channel.Dir.{Dir}
 use Rattle.env_script.specs.trace_model.declared.channel.Dir.TheVariants.{Inward, Outward}
@@ -20,17 +18,16 @@ use Rattle.env_script.specs.trace_model.vidi_bits.Number.{has}
 use Rattle.env_script.specs.trace_model.Packet.{Fit, widths_of}
 use Rattle.env_script.specs.trace_model.Row.{completes, content_at, sink_valid}
 use Rattle.env_script.specs.Offer.{Offer, Carries, FitsOffer, nothing}
-use Rattle.env_script.specs.Offered.{AreLasting}
 use Rattle.axi_memory.specs.declared.served.Ports.{Ports}
 use Rattle.axi_memory.specs.declared.served.Served.{Served}
 use Rattle.axi_memory.specs.declared.turn.Turn.{Turn}
-use Rattle.axi_memory.specs.Memory.{Standing, content, done, gives, id_under, is_place, memory_after, memory_offer, offer_as, offer_b, offer_of, offer_r, read_asks}
-use Rattle.axi_memory.specs.Memory.{read_number, read_turn, response, role_at, shown_since, shows, standing_after, taken, takes, turns, word_under, write_asks}
+use Rattle.axi_memory.specs.Memory.{Standing, content, done, gives, id_under, is_place, memory_after, offer_as, offer_b, offer_of, offer_r, read_asks}
+use Rattle.axi_memory.specs.Memory.{read_number, read_turn, response, role_at, shown_since, shows, standing_after, takes, turns, word_under, write_asks}
 use Rattle.axi_memory.specs.Memory.{write_beats}
 use Rattle.axi_memory.specs.Laws.{MemoryIsLasting}
 use Rattle.axi_memory.specs.Stands.{AreServed, Obeys, has_dir, served}
 use Rattle.axi_memory.proofs.Going.{front-same}
-use Rattle.axi_memory.proofs.Growing.{asks-none, done-none, taken-none}
+use Rattle.axi_memory.proofs.Growing.{asks-none, done-none}
 
 -- ---- the channels
 abbrev pub channel_of : Ports → Role → ℕ

@@ -1,6 +1,6 @@
 -- The number that is offered on a port.
-use Rattle.std.proofs.Common.{◌≡◌, ℕ, ◌+◌, ◌%◌, ◌^◌, ◌<◌, Bool, true, false, cond, List, [], length, Option, None, Some, is_some, refl, ap, sym, ◌∙◌, arith, pow_pos, mod-eq_of_lt}
-use Rattle.std.specs.Prelude.{map, slice_get, slice_index}
+use Rattle.std.proofs.Common.{◌≡◌, ℕ, ◌+◌, ◌%◌, ◌^◌, ◌<◌, Bool, true, false, cond, List, length, Option, None, Some, is_some, refl, ap, sym, ◌∙◌, arith, pow_pos, mod-eq_of_lt}
+use Rattle.std.specs.Prelude.{slice_get, slice_index}
 use Rattle.std.specs.List.{enumerate_from}
 use Rattle.std.proofs.lemmas.List.{get_or-map}
 use Rattle.std.proofs.lemmas.List.FromFn.{get_or-enumerate_from, length-enumerate_from}

@@ -1,24 +1,23 @@
 -- How `commit` goes, step by step.
-use Rattle.std.proofs.Common.{◌≡◌, ℕ, ◌+◌, ◌==◌, ◌&&◌, ◌≤◌, ◌<◌, ◌++◌, Bool, true, false, cond, eqb, List, [], ◌∷◌, Option, None, Some}
+use Rattle.std.proofs.Common.{◌≡◌, ℕ, ◌+◌, ◌==◌, ◌&&◌, ◌≤◌, ◌++◌, Bool, true, false, cond, List, [], ◌∷◌, Option, None, Some}
 use Rattle.std.proofs.Common.{refl, ap, sym, subst, ◌∙◌, arith, ltb-true}
-use Rattle.std.specs.Prelude.{is_none, is_some, slice_get, slice_index, slice_set}
+use Rattle.std.specs.Prelude.{slice_get, slice_index, slice_set}
 use Rattle.std.specs.Option.{option_map}
 use Rattle.std.proofs.lemmas.Bool.Decides.{nat_tests}
 use Rattle.std.proofs.lemmas.Option.{same_Some}
 use Rattle.axi_burst.specs.declared.axi.AddressPorts.{AddressPorts}
-use Rattle.axi_burst.specs.declared.transfers.Address.{Address}
 use Rattle.axi_burst.specs.Passes.{IsAddress, places_of}
 use Rattle.axi_burst.specs.declared.ports.Word.TheVariants.{Id, Addr, Len, Size, Burst}
 use Rattle.axi_burst.specs.Ports.{address_fits, place_fits}
 use Rattle.axi_burst.specs.Forms.{is_beat}
-use Rattle.axi_burst.specs.Transfers.{FitsAddress, begun_address}
+use Rattle.axi_burst.specs.Transfers.{FitsAddress}
 use Rattle.axi_burst.proofs.Fitting.{content_fits, is-address}
 use Rattle.env_script.proofs.run_model_lemmas.Contents.{content-fits}
 use Rattle.trace_model.specs.declared.channel.Channel.{Channel}
 use Rattle.trace_model.specs.declared.row.Row.{Row}
 use Rattle.trace_model.specs.vidi_bits.Number.{has}
 use Rattle.trace_model.specs.Packet.{Fit, widths_of}
-use Rattle.trace_model.specs.Row.{IsOver, all_widths, completes, content_at}
+use Rattle.trace_model.specs.Row.{IsOver, all_widths, content_at}
 use Rattle.env_script.specs.Offer.{EndsAreCompletions}
 use Rattle.trace_model.proofs.vidi_bits_lemmas.Bools.{right_of}
 use Rattle.axi_memory.specs.declared.served.Ports.{Ports}

@@ -6,7 +6,7 @@ use Rattle.axi_burst.specs.declared.axi.Reads.{Reads}
 use Rattle.axi_burst.specs.declared.axi.Writes.{Writes}
 use Rattle.axi_burst.specs.Binding.{is_inward}
 use Rattle.env_script.specs.trace_model.declared.channel.Channel.{Channel}
-use Rattle.env_script.specs.trace_model.vidi_bits.Findings.{first, told_if}
+use Rattle.env_script.specs.trace_model.vidi_bits.Findings.{told_if}
 use Rattle.axi_memory.specs.declared.reason.Lack.{Lack}
 use Rattle.axi_memory.specs.declared.reason.Lack.TheVariants.{Channels, Places, Side, Words}
 

@@ -1,6 +1,6 @@
 -- *Memory environment*: what an AXI4 memory offers after the rows before (AMBA AXI4 IHI 0022, A3.3 and A3.4.1; that one burst is out at a
 -- time, and which contents are shown, is this project's profile). All counts are completions in these rows.
-use Rattle.std.specs.Prelude.{ℕ, zero, suc, ◌+◌, ◌-◌, ◌*◌, ◌/◌, ◌%◌, ◌^◌, ◌==◌, ◌&&◌, ◌||◌, not, Bool, true, false, if◌then◌else◌, nat_le, nat_lt}
+use Rattle.std.specs.Prelude.{ℕ, zero, suc, ◌+◌, ◌-◌, ◌*◌, ◌/◌, ◌%◌, ◌^◌, ◌==◌, ◌&&◌, ◌||◌, Bool, false, if◌then◌else◌, nat_le, nat_lt}
 use Rattle.std.specs.Prelude.{List, [], ◌∷◌, map, take, length, reverse, replicate, slice_get, slice_index, slice_set, Option, None, Some}
 use Rattle.std.specs.Prelude.{is_none, is_some}
 use Rattle.std.specs.List.{flat_map, filter, zip, enumerate_from, range_with_len, position_or_len}

@@ -25,7 +25,7 @@ use Rattle.env_script.specs.trace_model.vidi_bits.Number.{has}
 use Rattle.axi_memory.specs.declared.served.Ports.{Ports}
 use Rattle.axi_memory.specs.declared.served.Served.{Served}
 use Rattle.axi_memory.specs.declared.turn.Turn.{Turn}
-use Rattle.axi_memory.specs.Memory.{Standing, asks_on, done, memory_after, memory_offer, offer_of, read_asks, read_number, response, standing_after, turns}
+use Rattle.axi_memory.specs.Memory.{Standing, done, memory_after, memory_offer, offer_of, read_asks, read_number, response, standing_after, turns}
 use Rattle.axi_memory.specs.Memory.{word_under, write_asks, written}
 
 abbrev pub served : List Channel → Ports → Served

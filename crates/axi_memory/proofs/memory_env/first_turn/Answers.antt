@@ -1,4 +1,4 @@
-use Rattle.std.proofs.Common.{◌≡◌, ap, sym, ◌∙◌, subst, List, ℕ}
+use Rattle.std.proofs.Common.{ap, sym, ◌∙◌, subst, List, ℕ}
 use Rattle.trace_model.specs.Row.{content_at}
 use Rattle.axi_burst.specs.Transfers.{FitsAddress}
 use Rattle.axi_memory.proofs.Steps.{asked-fits}

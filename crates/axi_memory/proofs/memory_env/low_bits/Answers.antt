@@ -1,4 +1,4 @@
-use Rattle.std.proofs.Common.{◌≡◌, ◌<◌, ◌^◌, sym, arith, mod-eq_of_lt}
+use Rattle.std.proofs.Common.{sym, arith, mod-eq_of_lt}
 use Rattle.trace_model.proofs.ContentsLemmas.{below-wide}
 use Rattle.axi_memory.proofs.memory_env.low_bits.Goals as goal
 

@@ -1,5 +1,4 @@
 use Rattle.std.proofs.Common.{◌≡◌, true, ap, sym, ◌∙◌, List, ℕ}
-use Rattle.std.specs.Prelude.{slice_index}
 use Rattle.trace_model.specs.vidi_bits.Number.{has}
 use Rattle.trace_model.specs.Row.{content_at}
 use Rattle.axi_memory.specs.Stands.{served}

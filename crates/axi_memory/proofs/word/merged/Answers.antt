@@ -1,4 +1,4 @@
-use Rattle.std.proofs.Common.{◌≡◌, ◌+◌, ◌*◌, ◌%◌, ◌^◌, ◌<◌, suc, ap, sym, subst, ◌∙◌, arith, add-one}
+use Rattle.std.proofs.Common.{◌≡◌, ◌+◌, ◌*◌, ◌%◌, ◌^◌, ◌<◌, ap, sym, ◌∙◌, arith, add-one}
 use Rattle.axi_memory.specs.Memory.{merged}
 use Rattle.axi_memory.proofs.Bytes.{next-small, shifted-byte}
 use Rattle.axi_memory.proofs.word.merged.Goals as goal

@@ -1,5 +1,4 @@
 use Rattle.std.proofs.Common.{◌≡◌, None, Some, sym, ◌∙◌}
-use Rattle.axi_memory.specs.Stands.{AreServed}
 use Rattle.axi_memory.proofs.Bound.{are-served}
 use Rattle.axi_memory.proofs.Kept.{offers-as-kept}
 use Rattle.axi_memory.proofs.Lasting.{memory-is-lasting}

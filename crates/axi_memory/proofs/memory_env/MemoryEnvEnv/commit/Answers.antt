@@ -1,4 +1,4 @@
-use Rattle.std.proofs.Common.{◌≡◌, ap, sym, ◌∙◌, List, ℕ}
+use Rattle.std.proofs.Common.{ap, sym, ◌∙◌}
 use Rattle.axi_memory.specs.Stands.{next_read, next_words, next_write, served, standing}
 use Rattle.axi_memory.proofs.Lasting.{obeys}
 use Rattle.axi_memory.proofs.Steps.{committed, read-kept, write-kept}

@@ -1,4 +1,4 @@
-use Rattle.std.proofs.Common.{◌≡◌, ◌%◌, ◌^◌, ap, sym, ◌∙◌, List, ℕ}
+use Rattle.std.proofs.Common.{◌%◌, ◌^◌, ap, sym, ◌∙◌, List}
 use Rattle.std.specs.Prelude.{slice_get, slice_index}
 use Rattle.trace_model.specs.declared.channel.Channel.{Channel}
 use Rattle.trace_model.specs.Packet.{widths_of}
