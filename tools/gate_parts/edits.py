@@ -30,15 +30,17 @@ PARTS = ("src", "specs", "proofs")
 # What the prover says of a proof that names what an edit took away, or that rests on another one: no goal of the function's own.
 NAMES_ALONE = re.compile(r"has no field|is not in scope|has no `|was not admitted")
 FUNCTION = re.compile(r"(\s*)(?:pub(?:\(\w+\))? )?(?:const )?fn (\w+)")
-IMPL = re.compile(r"impl(?:<(.*?)>)? (?:(\w+)(?:<.*?>)? for )?(\w+)(?:<(.*)>)?")
+IMPL = re.compile(r"impl(?:<(.*?)>)? (?:(\w+)(?:<(.*?)>)? for )?(\w+)(?:<(.*)>)?")
 
 
 def owner(block):
-    """The name that the prover gives the type of an `impl` block: `HostShelfShelf` of the trait `Shelf` for `HostShelf`, `RecordShell+Sim`."""
-    own, trait, name, given = block.groups()
+    """The name that the prover gives the type of an `impl` block: `HostShelfShelf` of the trait `Shelf` for `HostShelf`, `RecordShell+Sim`,
+    `FeederPlayerFeed` of `Player<Feed>`."""
+    own, trait, asked, name, given = block.groups()
     variables = [it.split(":")[0].strip() for it in (own or "").split(",")]
     types = [it.strip() for it in (given or "").split(",") if it.strip() not in ["", *variables]]
-    return name + "".join(f"+{it}" for it in types if it.isalnum()) + (trait or "")
+    of = [it.strip() for it in (asked or "").split(",") if it.strip() not in variables]
+    return name + "".join(f"+{it}" for it in types if it.isalnum()) + (trait or "") + "".join(it for it in of if it.isalnum())
 
 
 class Edit:
