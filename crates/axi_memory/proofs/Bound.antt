@@ -1,5 +1,6 @@
 -- An AXI file that was bound to channels, and lacks nothing, has the ports of a memory.
-use Rattle.std.proofs.Common.{◌≡◌, ℕ, zero, suc, ◌+◌, ◌*◌, ◌≤◌, ◌<◌, Bool, true, false, not, ◌&&◌, ◌||◌, cond, eqb, List, [], ◌∷◌, ◌++◌, length, take, get_or}
+use Rattle.std.proofs.Common.{◌≡◌, ℕ, zero, suc, ◌+◌, ◌*◌, ◌≤◌, ◌<◌, Bool, true, false, not, ◌&&◌, ◌||◌, cond, eqb, List, [], ◌∷◌, ◌++◌}
+use Rattle.std.proofs.Common.{length, take, get_or}
 use Rattle.std.proofs.Common.{All, Option, None, Some, IfSome, slice_get, refl, ap, sym, subst, ◌∙◌, arith, ⊎_elim, eqb-true, eq-eqb, ne_eqb}
 use Rattle.std.specs.Prelude.{option_and_then, find, is_none, is_some}
 use Rattle.std.specs.List.{list_all, list_any, range_with_len}
@@ -23,8 +24,10 @@ use Rattle.axi_burst.specs.declared.axi_text.Role.TheVariants.{WriteAddress, Wri
 use Rattle.axi_burst.specs.declared.error.AxiError.TheVariants as e
 use Rattle.axi_burst.specs.declared.ports.End.{End}
 use Rattle.axi_burst.specs.declared.ports.Ends.{Ends}
-use Rattle.axi_burst.specs.Binding.{IsBound, channel_at, channel_named, data_fits, data_ports, ends_from, ends_of, faults_from, first_side, has_width, is_channel}
-use Rattle.axi_burst.specs.Binding.{is_exactly, is_free, is_free_under, is_inward, is_named, is_side, line_fits, line_of, names_channel, port_faults, reads_from, row_fits, side, side_of}
+use Rattle.axi_burst.specs.Binding.{IsBound, channel_at, channel_named, data_fits, data_ports, ends_from, ends_of, faults_from, first_side}
+use Rattle.axi_burst.specs.Binding.{has_width, is_channel}
+use Rattle.axi_burst.specs.Binding.{is_exactly, is_free, is_free_under, is_inward, is_named, is_side, line_fits, line_of, names_channel}
+use Rattle.axi_burst.specs.Binding.{port_faults, reads_from, row_fits, side, side_of}
 use Rattle.axi_burst.specs.Binding.{side_under, with_entry, with_found, writes_from}
 use Rattle.axi_burst.specs.Forms.{is_beat}
 use Rattle.axi_burst.specs.Kinds.{role_number, same}
@@ -64,7 +67,8 @@ module _ (beat : ℕ) (channels : List Channel) (lines : List AxiLine) (none : p
   abbrev Fits : ℕ → AxiLine → Type 0
   Fits i l = line_fits beat channels lines (take i lines) l.entry ≡ true
 
-  fits-from : (n : ℕ) (rest : List AxiLine) → faults_from beat channels lines n rest ≡ [] → (i : ℕ) (l : AxiLine) → slice_get rest i ≡ Some l → Fits (n + i) l
+  fits-from : (n : ℕ) (rest : List AxiLine) → faults_from beat channels lines n rest ≡ [] → (i : ℕ) (l : AxiLine) → slice_get rest i ≡ Some l
+      → Fits (n + i) l
   fits-from n [] h i l at = (cc)
   fits-from n (x ∷ rest) h zero l at =
       let same : x ≡ l = same_Some x l at in
@@ -76,7 +80,8 @@ module _ (beat : ℕ) (channels : List Channel) (lines : List AxiLine) (none : p
   fits-from n (x ∷ rest) h (suc i) l at =
       let fits = line_fits beat channels lines (take n lines) x.entry in
       let sum : n + 1 + i ≡ n + suc i = omega arith in
-      subst (λ k. Fits k l) sum (fits-from (n + 1) rest (nil_right (told_if (not fits) (e.Port x.line)) (faults_from beat channels lines (n + 1) rest) h) i l at)
+      subst (λ k. Fits k l) sum (fits-from (n + 1) rest (nil_right (told_if (not fits) (e.Port x.line)) (faults_from beat channels lines
+      (n + 1) rest) h) i l at)
 
   fits : (i : ℕ) (l : AxiLine) → slice_get lines i ≡ Some l → Fits i l
   fits i l at = let e : 0 + i ≡ i = omega arith in subst (λ k. Fits k l) e (fits-from 0 lines none i l at)
@@ -99,7 +104,8 @@ module _ (beat : ℕ) (channels : List Channel) (lines : List AxiLine) (none : p
     pub r : IfSome ends.r (λ (x : End). IsOf ReadData x.channel)
     pub served : IfSome ends.places (λ (d : DataPorts). (places : List ℕ) × (data_fits beat channels lines places ≡ true))
 
-  address-of : (role : Role) (c : ℕ) (places : List (Option ℕ)) → IsOf role c → IfSome (address_ports c places) (λ (a : AddressPorts). IsOf role a.channel)
+  address-of : (role : Role) (c : ℕ) (places : List (Option ℕ)) → IsOf role c
+      → IfSome (address_ports c places) (λ (a : AddressPorts). IsOf role a.channel)
   address-of role c (id ∷ Some addr ∷ len ∷ size ∷ burst ∷ []) is = is
   address-of role c places is = tt
 
@@ -175,8 +181,10 @@ module _ (beat : ℕ) (channels : List Channel) (lines : List AxiLine) (none : p
   row-of role d is =
       let fit : line_fits beat channels lines (take is.i lines) (E.Channel role is.name is.places) ≡ true =
       subst (λ x. line_fits beat channels lines (take is.i lines) x ≡ true) is.says (fits is.i is.line is.at) in
-      let row = right_of (not (is_named (take is.i lines) is.name)) (row_fits (first_side channels lines) role is.places (channel_at channels is.name)) fit in
-      let fresh = left_of (not (is_named (take is.i lines) is.name)) (row_fits (first_side channels lines) role is.places (channel_at channels is.name)) fit in
+      let row = right_of (not (is_named (take is.i lines) is.name)) (row_fits (first_side channels lines) role is.places
+      (channel_at channels is.name)) fit in
+      let fresh = left_of (not (is_named (take is.i lines) is.name)) (row_fits (first_side channels lines) role is.places
+      (channel_at channels is.name)) fit in
       let at : channel_at channels is.name ≡ slice_get channels d = ap (λ o. option_and_then (λ c. slice_get channels c) o) is.named in
       row-found role is.places is.i is.name d (slice_get channels d) refl
       (ap (row_fits (first_side channels lines) role is.places) (sym at) ∙ row) is.named (not-true (is_named (take is.i lines) is.name) fresh)
@@ -190,7 +198,8 @@ module _ (beat : ℕ) (channels : List Channel) (lines : List AxiLine) (none : p
       let same : x ≡ l = same_Some x l at in
       ap (λ b. b || is_named (take j xs) name) (ap (λ (y : AxiLine). names_channel name y.entry) same ∙ h)
   named-before (x ∷ xs) (suc i) (suc j) l name at lt h =
-      ap (λ b. names_channel name x.entry || b) (named-before xs i j l name at (omega (arith, lt)) h) ∙ or_right (names_channel name x.entry) true refl
+      ap (λ b. names_channel name x.entry || b) (named-before xs i j l name at (omega (arith, lt)) h)
+      ∙ or_right (names_channel name x.entry) true refl
 
   one-name : (role : Role) (d : ℕ) (is : IsOf role d) (name : List ℕ) → name ≡ is.name → names_channel name is.line.entry ≡ true
   one-name role d is name e = ap (names_channel name) is.says ∙ (bytes_eq-Decides name is.name).1 e
@@ -264,7 +273,8 @@ module _ (beat : ℕ) (channels : List Channel) (lines : List AxiLine) (none : p
 
   -- ---- a word of data has at most 128 bits
   module _ (each : All IsChannel channels) where
-    width-small : (x : Channel) (o : Option ℕ) (d place width : ℕ) → slice_get channels d ≡ Some x → slice_get x.widths place ≡ o → is_exactly width o ≡ true
+    width-small : (x : Channel) (o : Option ℕ) (d place width : ℕ) → slice_get channels d ≡ Some x → slice_get x.widths place ≡ o
+        → is_exactly width o ≡ true
         → width ≤ 128
     width-small x None d place width at own h = (cc)
     width-small x (Some n) d place width at own h =
@@ -274,7 +284,8 @@ module _ (beat : ℕ) (channels : List Channel) (lines : List AxiLine) (none : p
         let own_is = eqb-true n width h in
         omega (arith, small, same, own_is)
 
-    row-small : (o : Option Channel) (f : Option ℕ) (width place : ℕ) → option_and_then (λ c. slice_get channels c) f ≡ o → has_width width place o ≡ true
+    row-small : (o : Option Channel) (f : Option ℕ) (width place : ℕ) → option_and_then (λ c. slice_get channels c) f ≡ o
+        → has_width width place o ≡ true
         → width ≤ 128
     row-small None f width place e h = (cc)
     row-small (Some x) None width place e h = (cc)
@@ -418,9 +429,11 @@ module _ (text : AxiText) (channels : List Channel) (axi : Axi) (ports : Ports) 
       let places : ends.places ≡ Some ports.places = sym (ap (λ (a : Axi). a.places) bound.axi_is) ∙ parts.3 in
       let (y, z, eaw, ew, eb, w_is, b_is) = writes-parts ends.aw ends.w ends.b ports.writes writes in
       let (v, ear, er, r_is) = reads-parts ends.ar ends.r ports.reads reads in
-      let aw : Of WriteAddress ports.writes.aw.channel = some-of (λ (a : AddressPorts). Of WriteAddress a.channel) ends.aw ports.writes.aw eaw ofs.aw in
+      let aw : Of WriteAddress ports.writes.aw.channel =
+      some-of (λ (a : AddressPorts). Of WriteAddress a.channel) ends.aw ports.writes.aw eaw ofs.aw in
       let w : Of WriteData ports.writes.w = subst (Of WriteData) (sym w_is) (some-of (λ (x : End). Of WriteData x.channel) ends.w y ew ofs.w) in
-      let b : Of WriteResponse ports.writes.b = subst (Of WriteResponse) (sym b_is) (some-of (λ (x : End). Of WriteResponse x.channel) ends.b z eb ofs.b) in
+      let b : Of WriteResponse ports.writes.b =
+      subst (Of WriteResponse) (sym b_is) (some-of (λ (x : End). Of WriteResponse x.channel) ends.b z eb ofs.b) in
       let ar : Of ReadAddress ports.reads.ar.channel = some-of (λ (a : AddressPorts). Of ReadAddress a.channel) ends.ar ports.reads.ar ear ofs.ar in
       let r : Of ReadData ports.reads.r = subst (Of ReadData) (sym r_is) (some-of (λ (x : End). Of ReadData x.channel) ends.r v er ofs.r) in
       let (s, there) = first-there text.beat channels text.lines bound.fits WriteAddress ports.writes.aw.channel aw in

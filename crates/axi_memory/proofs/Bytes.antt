@@ -1,5 +1,6 @@
 -- A word is as small as its bytes are few.
-use Rattle.std.proofs.Common.{◌≡◌, ℕ, zero, suc, ◌+◌, ◌*◌, ◌/◌, ◌%◌, ◌^◌, ◌<◌, ◌≤◌, cond, ap, sym, subst, ◌∙◌, arith, mod-lt, pow_pos, mul-le-mul_right, pow-add, mod-eq_of_lt}
+use Rattle.std.proofs.Common.{◌≡◌, ℕ, zero, suc, ◌+◌, ◌*◌, ◌/◌, ◌%◌, ◌^◌, ◌<◌, ◌≤◌, cond, ap, sym, subst, ◌∙◌, arith, mod-lt, pow_pos}
+use Rattle.std.proofs.Common.{mul-le-mul_right, pow-add, mod-eq_of_lt}
 use Rattle.std.proofs.Math.Nat.{pow-le-pow_right}
 use Rattle.trace_model.specs.vidi_bits.Number.{has, part_of}
 use Rattle.axi_memory.specs.Memory.{merged}

@@ -1,6 +1,7 @@
 -- What stands for rows goes on by one more.
 use Rattle.std.proofs.Common.{◌≡◌, ℕ, ◌+◌, ◌-◌, ◌==◌, ◌≤◌, ◌<◌, ◌++◌, ◌||◌, Bool, true, false, not, cond, List, [], ◌∷◌, length, reverse, take}
-use Rattle.std.proofs.Common.{Option, None, Some, is_none, is_some, refl, ap, sym, ◌∙◌, arith, append-nil, length-append, ltb-true, leb-true, eqb-true}
+use Rattle.std.proofs.Common.{Option, None, Some, is_none, is_some, refl, ap, sym, ◌∙◌, arith, append-nil, length-append, ltb-true}
+use Rattle.std.proofs.Common.{leb-true, eqb-true}
 use Rattle.std.specs.Prelude.{slice_get}
 use Rattle.std.specs.List.{position_or_len}
 use Rattle.std.specs.Option.{option_map}
@@ -15,7 +16,8 @@ use Rattle.env_script.specs.Offer.{EndsAreCompletions}
 use Rattle.axi_memory.specs.declared.served.Served.{Served}
 use Rattle.axi_memory.specs.declared.turn.Turn.{Turn}
 use Rattle.axi_memory.specs.Memory.{done, memory_after, read_asks, read_turn, shown_since, shows, turns, word_under, write_asks, written}
-use Rattle.axi_memory.specs.Stands.{IsReading, IsWriting, Obeys, StandsFor, answers, first_turn, later, moved, next_read, next_shown, next_words, next_write}
+use Rattle.axi_memory.specs.Stands.{IsReading, IsWriting, Obeys, StandsFor, answers, first_turn, later, moved, next_read, next_shown}
+use Rattle.axi_memory.specs.Stands.{next_words, next_write}
 use Rattle.axi_memory.specs.Stands.{standing, wants, written_under}
 use Rattle.axi_memory.proofs.Growing.{asks-more, beat-at, done-more, length-beats, memory-grown, memory-kept}
 use Rattle.axi_memory.proofs.Kept.{no-more, turn-is}
@@ -156,7 +158,8 @@ module _ (p : Served) (rows : List Row) (row : Row) where
       → cond shows_now (word_under p words new) shown ≡ word_under p (memory_after p (take (shown_since p more) more)) (read_turn p more)
   shown-later old new words shown true h kept same turn was =
       ap (λ ws. word_under p ws new) same ∙ ap (word_under p (memory_after p more)) turn
-      ∙ ap (λ rs. word_under p (memory_after p rs) (read_turn p more)) (sym (ap (λ k. take k more) (since-here h) ∙ take_all (length more) more (omega arith)))
+      ∙ ap (λ rs. word_under p (memory_after p rs) (read_turn p more)) (sym (ap (λ k. take k more) (since-here h)
+      ∙ take_all (length more) more (omega arith)))
   shown-later old new words shown false h kept same turn was =
       was ∙ ap (word_under p (memory_after p (take (shown_since p rows) rows))) (sym (kept refl) ∙ turn)
       ∙ ap (λ rs. word_under p (memory_after p rs) (read_turn p more)) (sym (front-same h))

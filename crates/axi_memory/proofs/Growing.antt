@@ -31,7 +31,8 @@ zip-long [] ys more l = refl
 zip-long (x ∷ xs) [] more l = absurd (omega (arith, l))
 zip-long (x ∷ xs) (y ∷ ys) more l = ap (λ zs. (x, y) ∷ zs) (zip-long xs ys more (omega (arith, l)))
 
-zip-push : {X Y : Type 0} (xs : List X) (x : X) (ys : List Y) (y : Y) → slice_get ys (length xs) ≡ Some y → zip (xs ++ x ∷ []) ys ≡ zip xs ys ++ (x, y) ∷ []
+zip-push : {X Y : Type 0} (xs : List X) (x : X) (ys : List Y) (y : Y) → slice_get ys (length xs) ≡ Some y
+    → zip (xs ++ x ∷ []) ys ≡ zip xs ys ++ (x, y) ∷ []
 zip-push [] x [] y e = absurd (cc)
 zip-push [] x (z ∷ ys) y e = ap (λ w. (x, w) ∷ []) (same_Some z y e)
 zip-push (a ∷ xs) x [] y e = absurd (cc)
@@ -139,7 +140,8 @@ module _ (p : Served) (rows : List Row) (row : Row) where
   beats = turns (write_asks p rows)
 
   -- no write beat, and not more of them than were asked for
-  pub memory-kept : completes row p.ports.writes.w ≡ false → done p p.ports.writes.w rows ≤ write_beats p rows → memory_after p more ≡ memory_after p rows
+  pub memory-kept : completes row p.ports.writes.w ≡ false → done p p.ports.writes.w rows ≤ write_beats p rows
+      → memory_after p more ≡ memory_after p rows
   memory-kept h l =
       let e = extends p.ports.writes.aw in
       ap (λ xs. all_written p zeros (zip xs (turns (write_asks p more)))) (taken-none p.ports.writes.w h)

@@ -22,7 +22,8 @@ use Rattle.axi_memory.specs.declared.served.Ports.{Ports}
 use Rattle.axi_memory.specs.declared.served.Served.{Served}
 use Rattle.axi_memory.specs.declared.turn.Turn.{Turn}
 use Rattle.axi_memory.specs.Memory.{Standing, content, done, gives, id_under, is_place, memory_after, offer_as, offer_b, offer_of, offer_r, read_asks}
-use Rattle.axi_memory.specs.Memory.{read_number, read_turn, response, role_at, shown_since, shows, standing_after, takes, turns, word_under, write_asks}
+use Rattle.axi_memory.specs.Memory.{read_number, read_turn, response, role_at, shown_since, shows, standing_after, takes, turns, word_under}
+use Rattle.axi_memory.specs.Memory.{write_asks}
 use Rattle.axi_memory.specs.Memory.{write_beats}
 use Rattle.axi_memory.specs.Laws.{MemoryIsLasting}
 use Rattle.axi_memory.specs.Stands.{AreServed, Obeys, has_dir, served}
@@ -217,7 +218,8 @@ module _ (channels : List Channel) (ports : Ports) (is : AreServed channels port
       ∙ ap (λ xs. ltb bs aws && leb (length (turns xs)) (done p w more)) asks
       ∙ and_from (ltb bs aws) (leb total (done p w more)) parts.0 late in
       let id : (standing_after p more).id ≡ (standing_after p rows).id =
-      ap (λ xs. id_under (slice_get xs (done p b more))) asks ∙ ap (λ n. id_under (slice_get (write_asks p rows) n)) (done-none p rows row b unended) in
+      ap (λ xs. id_under (slice_get xs (done p b more))) asks
+      ∙ ap (λ n. id_under (slice_get (write_asks p rows) n)) (done-none p rows row b unended) in
       ap (λ v. gives v (content channels b (response p (standing_after p more)))) (still ∙ sym up)
       ∙ ap (λ n. gives (standing_after p rows).answers (content channels b (λ k. cond (is_place ports.writes.id k) n 0))) id
 
@@ -254,7 +256,8 @@ module _ (channels : List Channel) (ports : Ports) (is : AreServed channels port
 
 pub memory-is-lasting : MemoryIsLasting
 memory-is-lasting channels ports is = record {
-  fits = λ rows c x at. fits-as channels ports is (standing_after (served channels ports) rows) c x (role_at ports c) (role-is channels ports is c) at;
+  fits = λ rows c x at. fits-as channels ports is (standing_after (served channels ports) rows) c x (role_at ports c)
+      (role-is channels ports is c) at;
   stays = λ rows row c carries up unended. stays-as channels ports is rows row c (role_at ports c) (role-is channels ports is c)
       (obeys channels ports is (standing_after (served channels ports) rows) row carries) up unended;
 }

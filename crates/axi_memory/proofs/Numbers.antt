@@ -1,5 +1,6 @@
 -- The number that is offered on a port.
-use Rattle.std.proofs.Common.{◌≡◌, ℕ, ◌+◌, ◌%◌, ◌^◌, ◌<◌, Bool, true, false, cond, List, length, Option, None, Some, is_some, refl, ap, sym, ◌∙◌, arith, pow_pos, mod-eq_of_lt}
+use Rattle.std.proofs.Common.{◌≡◌, ℕ, ◌+◌, ◌%◌, ◌^◌, ◌<◌, Bool, true, false, cond, List, length, Option, None, Some, is_some, refl, ap, sym}
+use Rattle.std.proofs.Common.{◌∙◌, arith, pow_pos, mod-eq_of_lt}
 use Rattle.std.specs.Prelude.{slice_get, slice_index}
 use Rattle.std.specs.List.{enumerate_from}
 use Rattle.std.proofs.lemmas.List.{get_or-map}
@@ -22,7 +23,8 @@ module _ (channels : List Channel) (port : ℕ) where
   abbrev width : ℕ → ℕ
   width c = slice_index (widths_of (slice_get channels c)) port
 
-  content-port : (c : ℕ) (at : ℕ → ℕ) → port < length (widths_of (slice_get channels c)) → slice_index (content channels c at) port ≡ at port % 2 ^ width c
+  content-port : (c : ℕ) (at : ℕ → ℕ) → port < length (widths_of (slice_get channels c))
+      → slice_index (content channels c at) port ≡ at port % 2 ^ width c
   content-port c at l =
       let ws = widths_of (slice_get channels c) in
       let long = length-enumerate_from 0 ws in

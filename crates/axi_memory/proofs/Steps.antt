@@ -24,7 +24,8 @@ use Rattle.axi_memory.specs.declared.served.Ports.{Ports}
 use Rattle.axi_memory.specs.declared.served.Served.{Served}
 use Rattle.axi_memory.specs.declared.turn.Turn.{Turn}
 use Rattle.axi_memory.specs.Memory.{merged, word_of, written}
-use Rattle.axi_memory.specs.Stands.{AreBeats, AreServed, AreTurns, IsBeat, IsTurn, Obeys, StandsFor, first_turn, has_address, later, moved, next_read, next_shown}
+use Rattle.axi_memory.specs.Stands.{AreBeats, AreServed, AreTurns, IsBeat, IsTurn, Obeys, StandsFor, first_turn, has_address, later, moved}
+use Rattle.axi_memory.specs.Stands.{next_read, next_shown}
 use Rattle.axi_memory.specs.Stands.{next_words, next_write, served, standing, wants, written_under}
 use Rattle.axi_memory.proofs.Going.{stands-later}
 
@@ -99,7 +100,8 @@ module _ (channels : List Channel) (ports : Ports) (is : AreServed channels port
   read-beats turn false true are = later-beats turn are
   read-beats turn false false are = are
 
-  pub write-kept : (writing reading : Option Turn) (shown : ℕ) → EndsAreCompletions row → Obeys p (standing writing reading shown) row → AreTurns writing
+  pub write-kept : (writing reading : Option Turn) (shown : ℕ) → EndsAreCompletions row → Obeys p (standing writing reading shown) row
+      → AreTurns writing
       → AreTurns (next_write p row writing)
   write-kept writing reading shown ends obeys are =
       write-turns writing (has row.ends ports.writes.b) (has row.ends ports.writes.aw.channel) (has row.ends ports.writes.w)

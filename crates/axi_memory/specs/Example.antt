@@ -46,7 +46,8 @@ at_once = row 1 1 1 1 (8 ∷ 0 ∷ 0 ∷ 0 ∷ 0 ∷ []) ∷ row 10 10 10 10 (0 
 
 -- ---- a port with all words; the ID of `b` has 2 bits
 abbrev pub wide : List Channel
-wide = record { dir = Outward; name = codes "aw"; widths = 32 ∷ 8 ∷ 3 ∷ 2 ∷ 4 ∷ [] } ∷ record { dir = Outward; name = codes "w"; widths = 32 ∷ 4 ∷ 1 ∷ [] }
+wide = record { dir = Outward; name = codes "aw"; widths = 32 ∷ 8 ∷ 3 ∷ 2 ∷ 4 ∷ [] }
+    ∷ record { dir = Outward; name = codes "w"; widths = 32 ∷ 4 ∷ 1 ∷ [] }
     ∷ record { dir = Inward; name = codes "b"; widths = 2 ∷ 2 ∷ [] } ∷ record { dir = Outward; name = codes "ar"; widths = 32 ∷ 8 ∷ 3 ∷ 2 ∷ 4 ∷ [] }
     ∷ record { dir = Inward; name = codes "r"; widths = 32 ∷ 1 ∷ 4 ∷ 2 ∷ [] } ∷ []
 
@@ -63,7 +64,12 @@ whole = record {
       b = 2;
       id = Some 1;
     };
-    reads = record { ar = record { channel = 3; id = Some 4; addr = 0; len = Some 1; size = Some 2; burst = Some 3 }; r = 4; id = Some 2; last = Some 1 };
+    reads = record {
+      ar = record { channel = 3; id = Some 4; addr = 0; len = Some 1; size = Some 2; burst = Some 3 };
+      r = 4;
+      id = Some 2;
+      last = Some 1;
+    };
     places = record { wdata = 0; wstrb = 1; rdata = 0 };
   };
 }
@@ -89,7 +95,8 @@ shut contents = record { fresh = false; gates = 29; valids = 2; readies = 2; con
 -- ID 6, and one past the end
 abbrev pub bursts : List Row
 bursts = plain 1 (shown (4 ∷ 1 ∷ 2 ∷ 1 ∷ 13 ∷ []) no_beat no_ask) ∷ plain 2 (shown no_ask (286331153 ∷ 15 ∷ 0 ∷ []) no_ask)
-    ∷ shut (shown no_ask (2864434397 ∷ 6 ∷ 1 ∷ []) no_ask) ∷ plain 2 (shown no_ask (2864434397 ∷ 6 ∷ 1 ∷ []) no_ask) ∷ plain 4 (shown no_ask no_beat no_ask)
+    ∷ shut (shown no_ask (2864434397 ∷ 6 ∷ 1 ∷ []) no_ask) ∷ plain 2 (shown no_ask (2864434397 ∷ 6 ∷ 1 ∷ []) no_ask)
+    ∷ plain 4 (shown no_ask no_beat no_ask)
     ∷ plain 8 (shown no_ask no_beat (4 ∷ 2 ∷ 2 ∷ 1 ∷ 6 ∷ [])) ∷ plain 16 (shown no_ask no_beat no_ask) ∷ plain 16 (shown no_ask no_beat no_ask)
     ∷ plain 16 (shown no_ask no_beat no_ask) ∷ plain 8 (shown no_ask no_beat (16 ∷ 0 ∷ 2 ∷ 1 ∷ 1 ∷ [])) ∷ []
 

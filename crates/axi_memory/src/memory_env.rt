@@ -16,7 +16,8 @@ ghost use Rattle.env_script.specs.trace_model.vidi_bits.Findings.{first};
 ghost use Rattle.env_script.specs.Offered.{AreLasting};
 ghost use Rattle.axi_memory.specs.Lack.{lacks};
 ghost use Rattle.axi_memory.specs.Memory.{is_place, memory_offer, offer_of, read_number, role_at, word_of, word_under};
-ghost use Rattle.axi_memory.specs.Stands.{AreBeats, AreServed, AreTurns, OffersAsKept, StandsFor, answers, has_address, id_of, later, moved, next_read};
+ghost use Rattle.axi_memory.specs.Stands.{AreBeats, AreServed, AreTurns, OffersAsKept, StandsFor, answers, has_address, id_of, later};
+ghost use Rattle.axi_memory.specs.Stands.{moved, next_read};
 ghost use Rattle.axi_memory.specs.Stands.{next_shown, next_words, next_write, number_of, ports_of, served, standing, wants};
 
 use crate::content::{content_at, number_at};
