@@ -30,13 +30,13 @@ PARTS = ("src", "specs", "proofs")
 # What the prover says of a proof that names what an edit took away, or that rests on another one: no goal of the function's own.
 NAMES_ALONE = re.compile(r"has no field|is not in scope|has no `|was not admitted")
 FUNCTION = re.compile(r"(\s*)(?:pub(?:\(\w+\))? )?(?:const )?fn (\w+)")
-IMPL = re.compile(r"impl(?:<(.*?)>)? (?:(\w+)(?:<(.*?)>)? for )?(\w+)(?:<(.*)>)?")
+IMPL = re.compile(r"impl(?:<(?P<own>.*?)>)? (?:(?P<trait>\w+)(?:<(?P<asked>.*?)>)? for )?(?P<name>\w+)(?:<(?P<given>.*)>)?")
 
 
 def owner(block):
     """The name that the prover gives the type of an `impl` block: `HostShelfShelf` of the trait `Shelf` for `HostShelf`, `RecordShell+Sim`,
     `FeederPlayerFeed` of `Player<Feed>`."""
-    own, trait, asked, name, given = block.groups()
+    own, trait, asked, name, given = block.group("own", "trait", "asked", "name", "given")
     variables = [it.split(":")[0].strip() for it in (own or "").split(",")]
     types = [it.strip() for it in (given or "").split(",") if it.strip() not in ["", *variables]]
     of = [it.strip() for it in (asked or "").split(",") if it.strip() not in variables]
@@ -103,8 +103,8 @@ class Edit:
         first = self.lines[0]
         indent, name = FUNCTION.match(lines[first]).groups()
         block = next((it for line in reversed(lines[:first]) if (it := IMPL.match(line))), None) if indent else None
-        if block and not block[2]:
-            path = self.home(block[3]) or path
+        if block and not block["trait"]:
+            path = self.home(block["name"]) or path
         path += [owner(block), name] if block else [name]
         cycle = re.match(r"\s*#\[cycle\((\w+)\)\]", lines[first - 1])
         return "::".join(path), f"+{cycle[1]}" if cycle else "/".join(path)
