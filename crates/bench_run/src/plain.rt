@@ -42,7 +42,7 @@ pub struct PlainRun {
 }
 
 /// Where the row is unstable that ends a run.
-fn spot_of(ending: Ending) -> Option<Spot>
+pub fn spot_of(ending: Ending) -> Option<Spot>
     ensures { result ≡ spot_of ending }
 {
     match ending {

@@ -59,12 +59,8 @@ fn mark(row: &Row) -> usize
     usize::from(row.fresh)
 }
 
-/// What an environment offers now, with all gates up.
-pub(crate) fn given_now<E: Env>(
-    alloc: Global,
-    env: &E,
-    channels: &Channels,
-) -> Result<Gated, Memory>
+/// What an environment offers now on these channels, of which there are at most `MOST_CHANNELS`, with all gates up.
+pub fn given_now<E: Env>(alloc: Global, env: &E, channels: &Channels) -> Result<Gated, Memory>
     requires channels { E.channels env.now ≡ channels.now }
     requires few { length channels.now ≤ MOST_CHANNELS }
     requires fits { AllFit channels.now (E.current env.now) }

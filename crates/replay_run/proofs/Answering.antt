@@ -31,7 +31,7 @@ use Rattle.replay_run.proofs.Stretched.{ends-contents, ends-encoded, ends-free, 
 use Rattle.replay_run.proofs.Prefix.{prefixes}
 
 -- what is kept is what the lists are made of
-pub kept-rows : (d : Design) (m : Map) (packets : List Packet) (runs : Design → Values → List Row → List Row → Type 0) (past : List (List Row))
+pub kept-rows : (d : Design) (m : Map) (packets : List Packet) (runs : Design → Values → List (List Row) → List Row → Type 0) (past : List (List Row))
     (here : List Row) (n : ℕ) (feeder : Feeder) (last : Row)
     → PlayStretches d m (epoch_rule m.channels packets) (TurnsBehind m.channels packets) runs last past here
     → AreKept m.channels n past here feeder → IsKept (length m.channels) here feeder.have last

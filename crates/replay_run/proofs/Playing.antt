@@ -204,7 +204,7 @@ module _ (first : Feeder) (m : Map) (same : first.map.now ≡ m) (t : Trace) (en
   some-stretch past here ruled = ∥∥₁_map {B = (d : Design) × IsReplayStretch (not (is_nil past)) d m (epoch (length past) t.packets) here} ruled.played
       (λ (x : (d : Design) × ArePlayed d m (IsNextRow first) (IsTurn first) past here). (x.0, played-of x.0 past here x.1.last))
 
-  pub plays-of : (d : Design) (runs : Design → Values → List Row → List Row → Type 0) (last : Row) (past : List (List Row)) (here : List Row)
+  pub plays-of : (d : Design) (runs : Design → Values → List (List Row) → List Row → Type 0) (last : Row) (past : List (List Row)) (here : List Row)
       → PlayStretches d m (IsNextRow first) (IsTurn first) runs last past here
       → PlayStretches d m (epoch_rule m.channels t.packets) (TurnsBehind m.channels t.packets) runs last past here
   plays-of d runs last past here at = record {
@@ -238,7 +238,7 @@ module _ (first : Feeder) (m : Map) (same : first.map.now ≡ m) (t : Trace) (en
   }
 
   -- how it ends
-  module _ (d : Design) (runs : Design → Values → List Row → List Row → Type 0) (last : Row) (n : ℕ) (past : List (List Row)) (here : List Row)
+  module _ (d : Design) (runs : Design → Values → List (List Row) → List Row → Type 0) (last : Row) (n : ℕ) (past : List (List Row)) (here : List Row)
       (come : HaveCome (SaysEnded first) n past here) (at : PlayStretches d m (IsNextRow first) (IsTurn first) runs last past here) where
     replay-so_far : AreTraceReplay d m t.packets (and_stretch past here)
     replay-so_far = trace-replay d m t.packets past here (are-played-of d past here at.played) come.asked

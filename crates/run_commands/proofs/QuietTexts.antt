@@ -26,7 +26,7 @@ use Rattle.vidi_bench.proofs.Chain.{Implies}
 use Rattle.vidi_bench.proofs.Quiet.{Mute, mute-step, mute-reading, mute-refusal, mute-said, done-goes, quiet-reading}
 use Rattle.vidi_bench.proofs.QuietTexts.{mute-spelling, mute-building, mute-refused_texts, mute-texts, quiet-texts}
 use Rattle.run_commands.specs.Checks.{Checked, Checks}
-use Rattle.run_commands.specs.Records.{least_for, IsNoPlan, IsTooSmall, RefusedPlan, RefusedPlanned, IsRecorded, Records}
+use Rattle.run_commands.specs.Records.{least_for, IsNoPlan, IsShort, RefusedPlan, RefusedPlanned, RefusedRoom, IsRecorded, Records}
 use Rattle.run_commands.specs.Runs.{IsEnded, IsPlayed, RunTexts, Runs}
 use Rattle.run_commands.specs.Said.{check_text, cycles_line, recorded_line, unstable_line}
 
@@ -58,12 +58,15 @@ mute-runs design m script files F = mute-texts design m script files F RunTexts 
 mute-no_plan : (bytes : List ℕ) → Mute (IsNoPlan bytes)
 mute-no_plan bytes x (line, is, said) = mute-refusal words.Stalls (StallLine line) x said
 
-mute-small : (channels : List Channel) (script : Script) (plan : Stalls) → Mute (IsTooSmall channels script plan)
-mute-small channels script plan x (small, said) = mute-refusal words.Stalls (TooSmall (least_for channels script) plan.capacity) x said
+mute-short : (need : ℕ) (plan : Stalls) → Mute (IsShort need plan)
+mute-short need plan x (small, said) = mute-refusal words.Stalls (TooSmall need plan.capacity) x said
+
+pub mute-room : (stalls : List ℕ) (need : ℕ) → Mute (RefusedRoom stalls need)
+mute-room stalls need = mute-step (IsNoPlan stalls) (λ (plan : Stalls). ReadsStalls (read_lines stalls) (Ok plan)) (IsShort need)
+    (mute-no_plan stalls) (mute-short need)
 
 mute-plan : (stalls : List ℕ) (b : Bench) → Mute (RefusedPlan stalls b)
-mute-plan stalls b = mute-step (IsNoPlan stalls) (λ (plan : Stalls). ReadsStalls (read_lines stalls) (Ok plan))
-    (IsTooSmall b.device.map.channels b.script) (mute-no_plan stalls) (mute-small b.device.map.channels b.script)
+mute-plan stalls b = mute-room stalls (least_for b.device.map.channels b.script)
 
 pub mute-planned : (design m script stalls : List ℕ) → Mute (RefusedPlanned design m script stalls)
 mute-planned design m script stalls = mute-step (RefusedTexts design m script) (IsBench design m script) (RefusedPlan stalls)

@@ -42,11 +42,11 @@ told-recorded w files left trace P (outcomes.Unstable channel cycle packets) cyc
 
 -- the same of what else is known of the starts
 module _ (w : Course) (files left : Option Files) (trace : List ℕ) (P Q : Bool → Type 0) (known : (once : Bool) → P once → Q once) where
-  short-knowing : IsCutShort w files trace P left → IsCutShort w files trace Q left
+  pub short-knowing : IsCutShort w files trace P left → IsCutShort w files trace Q left
   short-knowing (inl (none, same)) = inl (known false none, same)
   short-knowing (inr (once, is, rows, bytes, run, front, held, empty)) = inr (once, known once is, rows, bytes, run, front, held, empty)
 
-  run-knowing : (status : Status) (text : List ℕ) → RecordsRun w trace files P status text left
+  pub run-knowing : (status : Status) (text : List ℕ) → RecordsRun w trace files P status text left
       → RecordsRun w trace files Q status text left
   run-knowing status text (rows, stop, (run, held, (once, is, told)), said) =
       (rows, stop, (run, held, (once, known once is, told)), said)

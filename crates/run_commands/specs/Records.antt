@@ -39,14 +39,20 @@ IsNoPlan bytes status said =
 abbrev pub least_for : List Channel → Script → ℕ
 least_for channels script = least (sizes_of channels) (not (is_nil script.resets))
 
--- the store holds fewer
-abbrev pub IsTooSmall : List Channel → Script → Stalls → Ending
-IsTooSmall channels script plan status said = (plan.capacity < least_for channels script)
-    × IsRefusal words.Stalls (TooSmall (least_for channels script) plan.capacity) status said
+-- the store holds fewer than are needed
+abbrev pub IsShort : ℕ → Stalls → Ending
+IsShort need plan status said = (plan.capacity < need) × IsRefusal words.Stalls (TooSmall need plan.capacity) status said
 
--- a plan of stalls, and a store of its capacity for these channels and this script
+abbrev pub IsTooSmall : List Channel → Script → Stalls → Ending
+IsTooSmall channels script = IsShort (least_for channels script)
+
+-- a plan of stalls, and a store of its capacity where so many bytes are needed
+abbrev pub RefusedRoom : List ℕ → ℕ → Ending
+RefusedRoom stalls need = Step (IsNoPlan stalls) (λ plan. ReadsStalls (read_lines stalls) (Ok plan)) (IsShort need)
+
+-- for these channels and this script
 abbrev pub RefusedStore : List ℕ → List Channel → Script → Ending
-RefusedStore stalls channels script = Step (IsNoPlan stalls) (λ plan. ReadsStalls (read_lines stalls) (Ok plan)) (IsTooSmall channels script)
+RefusedStore stalls channels script = RefusedRoom stalls (least_for channels script)
 
 abbrev pub RefusedPlan : List ℕ → Bench → Ending
 RefusedPlan stalls b = RefusedStore stalls b.device.map.channels b.script

@@ -8,6 +8,6 @@ mod running;
 pub use checking::check;
 pub use net_sim;
 pub use net_sim::net_order;
-pub use recording::{Planned, plan_texts, record, record_sim};
+pub use recording::{Planned, plan_texts, record, record_file, record_sim, store_of, told};
 pub use running::run;
 pub use vidi_recorder;

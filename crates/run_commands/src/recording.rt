@@ -12,6 +12,7 @@ ghost use Rattle.bench_run.specs.trace_model.declared.packet.TheConstants.{MOST_
 ghost use Rattle.bench_run.specs.env_script.Fits.{FitsChannels};
 ghost use Rattle.bench_run.specs.env_script.ScriptOffer.{script_offer};
 ghost use Rattle.vidi_recorder.specs.room_ledger.Ledger.{empty};
+ghost use Rattle.vidi_recorder.specs.room_ledger.Reservation.{least};
 ghost use Rattle.bench_run.specs.env_script.Resets.{AreTimes};
 ghost use Rattle.vidi_recorder.specs.vidi_io.vidi_bits.Findings.{is_nil};
 ghost use Rattle.bench_run.specs.env_script.Reasons.{read_lines};
@@ -26,7 +27,7 @@ ghost use Rattle.vidi_bench.specs.AnswerText.{text_of};
 ghost use Rattle.vidi_bench.specs.Benches.{AreWithin, IsBench, IsPlayable};
 ghost use Rattle.vidi_bench.specs.Design.{text_limit};
 ghost use Rattle.vidi_bench.specs.Ended.{EndsWith, IsStopped, Owes};
-ghost use Rattle.run_commands.specs.Records.{course_of, least_for, IsCutShort, IsNewRoom, IsNoPlan, IsPlanned, IsTooSmall, IsUnrecorded, RefusedStore};
+ghost use Rattle.run_commands.specs.Records.{course_of, least_for, IsCutShort, IsNewRoom, IsNoPlan, IsPlanned, IsShort, IsUnrecorded, RefusedRoom};
 ghost use Rattle.run_commands.specs.Records.{Records, RecordsRun, RefusedPlanned, StopsRecording};
 ghost use Rattle.run_commands.specs.Recorded.{FileEnds, FileFails, IsOutcome};
 
@@ -112,28 +113,36 @@ pub fn plan_texts(alloc: Global, texts: &Texts, stalls: &[u8]) -> Result<Planned
     ensures refused { IfErr result (EndsWith (RefusedPlanned texts.now.design texts.now.map texts.now.script stalls.now)) }
 {
     let bench = bench_of(alloc, texts)?;
-    let store = store_of(alloc, &bench.device.map.channels, &bench.script, stalls)?;
+    let resets = has_resets(&bench.script);
+    let store = store_of(alloc, &bench.device.map.channels, resets, stalls)?;
     let (plan, room) = store;
     Ok(Planned { bench, plan, room })
 }
 
-/// The plan of a text, and a store for it, these channels and this script.
-fn store_of(
+/// The plan of a text, and a store for it and these channels, which has room for a permit where there are resets.
+pub fn store_of(
     alloc: Global,
     channels: &Channels,
-    script: &Script,
+    resets: bool,
     stalls: &[u8],
 ) -> Result<(Stalls, Room), Ended>
     requires table { IsTable channels.now }
     requires stalls { length stalls.now ≤ text_limit }
     ensures planned { IfOk result (λ s. ReadsStalls (read_lines stalls.now) (Ok s.0)) }
-    ensures holds { IfOk result (λ s. least_for channels.now script.now ≤ s.0.capacity) }
-    ensures room { IfOk result (λ s. IsNewRoom channels.now script.now s.0 s.1) }
-    ensures refused { IfErr result (EndsWith (RefusedStore stalls.now channels.now script.now)) }
+    ensures holds { IfOk result (λ s. least (sizes_of channels.now) resets ≤ s.0.capacity) }
+    ensures room { IfOk result (λ s. s.1 ≡ empty (sizes_of channels.now) resets s.0.capacity) }
+    ensures refused { IfErr result (EndsWith (RefusedRoom stalls.now (least (sizes_of channels.now) resets))) }
 {
     let plan = plan_of(alloc, stalls)?;
-    let room = room_for(alloc, channels, script, &plan)?;
+    let room = room_for(alloc, channels, resets, &plan)?;
     Ok((plan, room))
+}
+
+/// Whether a script has resets.
+fn has_resets(script: &Script) -> bool
+    ensures { result ≡ not (is_nil script.now.resets) }
+{
+    !script.resets().is_empty()
 }
 
 /// The plan of a text.
@@ -153,19 +162,13 @@ fn plan_of(alloc: Global, text: &[u8]) -> Result<Stalls, Ended>
     }
 }
 
-/// The store of a plan for these channels and this script, whose resets want a permit.
-fn room_for(
-    alloc: Global,
-    channels: &Channels,
-    script: &Script,
-    plan: &Stalls,
-) -> Result<Room, Ended>
+/// The store of a plan for these channels; resets want a permit.
+fn room_for(alloc: Global, channels: &Channels, resets: bool, plan: &Stalls) -> Result<Room, Ended>
     requires { IsTable channels.now }
-    ensures room { IfOk result (IsNewRoom channels.now script.now plan.now) }
-    ensures holds { IfOk result (λ room. least_for channels.now script.now ≤ plan.now.capacity) }
-    ensures refused { IfErr result (EndsWith (IsTooSmall channels.now script.now plan.now)) }
+    ensures room { IfOk result (λ room. room ≡ empty (sizes_of channels.now) resets plan.now.capacity) }
+    ensures holds { IfOk result (λ room. least (sizes_of channels.now) resets ≤ plan.now.capacity) }
+    ensures refused { IfErr result (EndsWith (IsShort (least (sizes_of channels.now) resets) plan.now)) }
 {
-    let resets = !script.resets().is_empty();
     match Room::new(alloc, channels, resets, plan.capacity()) {
         Ok(room) => Ok(room),
         Err(RoomError::TooSmall { need, given }) => Err(Ended::Refused(refused(
@@ -299,7 +302,7 @@ fn record_block<B: Block + Drop, S: Shelf>(
 }
 
 /// Records the run of a shell into the file `trace`.
-fn record_file<S: Shell, E: Env, F: Shelf>(
+pub fn record_file<S: Shell, E: Env, F: Shelf>(
     alloc: Global,
     shell: &mut S,
     map: &Map,
@@ -335,7 +338,7 @@ fn record_file<S: Shell, E: Env, F: Shelf>(
 }
 
 /// The answer of an outcome, with its line in memory that was taken before.
-fn told(outcome: Outcome, cycles: u32, channels: &Channels, line: Pad) -> Answer
+pub fn told(outcome: Outcome, cycles: u32, channels: &Channels, line: Pad) -> Answer
     requires table { IsTable channels.now }
     requires empty { shown line ≡ [] }
     requires room { left line ≡ LINE_BYTES }

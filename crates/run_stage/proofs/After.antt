@@ -18,7 +18,7 @@ use Rattle.run_stage.proofs.Turning.{stable-nil}
 
 pub record After (m : Map) (rule : List (List Row) → List Row → Row → Type 0) (turns : List (List Row) → List Row → Type 0)
     (ends : List (List Row) → List Row → Bool → Type 0) (Stands : List (List Row) → List Row → Type 0)
-    (begun runs : Design → Values → List Row → List Row → Type 0) (last : Row) (fresh : Bool) (cycle : ℕ) : Type 0 where
+    (begun runs : Design → Values → List (List Row) → List Row → Type 0) (last : Row) (fresh : Bool) (cycle : ℕ) : Type 0 where
   pub past : List (List Row)
   pub here : List Row
   pub stands : Stands past here
@@ -61,7 +61,7 @@ here-long past here cycle asked long some = ⊎_elim
 
 module _ (m : Map) (rule : List (List Row) → List Row → Row → Type 0) (turns : List (List Row) → List Row → Type 0)
     (ends : List (List Row) → List Row → Bool → Type 0) (StandsOld Stands : List (List Row) → List Row → Type 0)
-    (begun was runs : Design → Values → List Row → List Row → Type 0) (old last : Row) (fresh : Bool) (cycle : ℕ)
+    (begun was runs : Design → Values → List (List Row) → List Row → Type 0) (old last : Row) (fresh : Bool) (cycle : ℕ)
     (past : List (List Row)) (here : List Row) (asked : IsAsked past (length here)) (long : length (all_rows past here) ≡ cycle)
     (going : Going ends past here) (before : GoingBefore ends past) (now : ends past here false)
     (plays : (d : Design) → BeginsBehind d m begun [] → PlayStretches d m rule turns was old past here)
@@ -95,7 +95,7 @@ module _ (m : Map) (rule : List (List Row) → List Row → Row → Type 0) (tur
       }
 
   after-none : fresh ≡ false → ((0 < cycle → 0 < length here) → length here ≤ cycle → GoesOn turns past here × Stands past here)
-      → ((d : Design) (s : Values) → was d s (rows_of past) here → runs d s (rows_of past) here) → last ≡ old
+      → ((d : Design) (s : Values) → was d s past here → runs d s past here) → last ≡ old
       → After m rule turns ends Stands begun runs last fresh cycle
   after-none e on same kept =
       let t = on some within in
@@ -120,7 +120,7 @@ module _ (m : Map) (rule : List (List Row) → List Row → Row → Type 0) (tur
       → PlayStretches d m rule turns runs last (and_stretch past here) [])
       → (fresh ≡ true → (last.valids ≡ 0) × (0 < cycle))
       → (fresh ≡ false → (0 < cycle → 0 < length here) → length here ≤ cycle → GoesOn turns past here × Stands past here)
-      → (fresh ≡ false → (d : Design) (s : Values) → was d s (rows_of past) here → runs d s (rows_of past) here) → (fresh ≡ false → last ≡ old)
+      → (fresh ≡ false → (d : Design) (s : Values) → was d s past here → runs d s past here) → (fresh ≡ false → last ≡ old)
       → After m rule turns ends Stands begun runs last fresh cycle
   after turned resets silent on same kept = ⊎_elim
       (λ (e : fresh ≡ true). after-reset e (turned e) (resets e) (silent e))

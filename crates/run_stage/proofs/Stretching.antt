@@ -75,16 +75,16 @@ all-longer past here row = ap length (sym (append_assoc (rows_of past) here (row
 
 -- ---- one row more
 module _ (d : Design) (m given : Map) (rule : List (List Row) → List Row → Row → Type 0) (turns : List (List Row) → List Row → Type 0)
-    (allows : List Row → Row → Type 0) (runs : Design → Values → List Row → List Row → Type 0) (past : List (List Row)) (here : List Row)
+    (allows : List Row → Row → Type 0) (runs : Design → Values → List (List Row) → List Row → Type 0) (past : List (List Row)) (here : List Row)
     (last row : Row) (same : given ≡ m) (ruled : (r : Row) → allows here r → r.fresh ≡ is_fresh_behind past here → rule past here r)
     (at : PlayStretches d m rule turns runs last past here)
-    (shown : (s : Values) (before rows : List Row) → runs d s before rows → IsShown d given s rows allows row)
+    (shown : (s : Values) (before : List (List Row)) (rows : List Row) → runs d s before rows → IsShown d given s rows allows row)
     (marked : row.fresh ≡ is_fresh_behind past here) where
   abbrev state : Values
   state = at.played.last.driven.state (length here)
 
   shows : IsShown d m state here allows row
-  shows = subst (λ (b : Map). IsShown d b state here allows row) same (shown state (rows_of past) here at.at)
+  shows = subst (λ (b : Map). IsShown d b state here allows row) same (shown state past here at.at)
 
   grown : (after : Values) → IsStep d m state row after → Grown d m (rule past) (here ++ row ∷ []) after
   grown after step = played-push d m (rule past) here row after at.played.last (ruled row shows.allowed marked) shows.over shows.marked step
@@ -97,21 +97,21 @@ module _ (d : Design) (m given : Map) (rule : List (List Row) → List Row → R
     unstable = unstable-now m.channels here last row c at.last_is low;
   }
 
-  next-row : (after_runs : Design → Values → List Row → List Row → Type 0) (n : Map) → n ≡ m → GoesOn turns past here
-      → ((s : Values) (before : List Row) → runs d s before here → GoesTo after_runs d n s before here row)
+  next-row : (after_runs : Design → Values → List (List Row) → List Row → Type 0) (n : Map) → n ≡ m → GoesOn turns past here
+      → ((s : Values) (before : List (List Row)) → runs d s before here → GoesTo after_runs d n s before here row)
       → IsLowestUnstable m.channels last row None → PlayStretches d m rule turns after_runs row past (here ++ row ∷ [])
   next-row after_runs n e on next none =
-      let to = next state (rows_of past) at.at in
+      let to = next state past at.at in
       let g = grown to.0 (subst (λ (b : Map). IsStep d b state row to.0) e to.1) in
       record {
         played = record { before = at.played.before; last = g.played; unturned = unturned-push turns past here row at.played.unturned on };
-        at = subst (λ (s : Values). after_runs d s (rows_of past) (here ++ row ∷ [])) (sym g.state) to.2;
+        at = subst (λ (s : Values). after_runs d s past (here ++ row ∷ [])) (sym g.state) to.2;
         stable = record { before = at.stable.before; last = stable-push m.channels here last row at.stable.last at.last_is none };
         last_is = last-push here row row refl;
       }
 
-  pub next : (kept : Row) → kept ≡ row → (after_runs : Design → Values → List Row → List Row → Type 0) (n : Map) → n ≡ m
-      → GoesOn turns past here → ((s : Values) (before : List Row) → runs d s before here → GoesTo after_runs d n s before here row)
+  pub next : (kept : Row) → kept ≡ row → (after_runs : Design → Values → List (List Row) → List Row → Type 0) (n : Map) → n ≡ m
+      → GoesOn turns past here → ((s : Values) (before : List (List Row)) → runs d s before here → GoesTo after_runs d n s before here row)
       → IsLowestUnstable m.channels last row None → PlayStretches d m rule turns after_runs kept past (here ++ kept ∷ [])
   next kept k after_runs n e on goes none = subst (λ (r : Row). PlayStretches d m rule turns after_runs r past (here ++ r ∷ [])) (sym k)
       (next-row after_runs n e on goes none)
@@ -121,7 +121,7 @@ pub all-stable_nil : (channels : List Channel) → AllAreStable channels [] []
 all-stable_nil channels = record { before = All-nil (AreStable channels); last = stable-nil channels }
 
 pub first : (d : Design) (m : Map) (rule : List (List Row) → List Row → Row → Type 0) (turns : List (List Row) → List Row → Type 0)
-    (runs : Design → Values → List Row → List Row → Type 0) (last : Row) → last.valids ≡ 0 → BeginsBehind d m runs []
+    (runs : Design → Values → List (List Row) → List Row → Type 0) (last : Row) → last.valids ≡ 0 → BeginsBehind d m runs []
     → PlayStretches d m rule turns runs last [] []
 first d m rule turns runs last silent (s, is, on) =
     let g = played-nil d m (rule []) s is in
@@ -133,9 +133,9 @@ first d m rule turns runs last silent (s, is, on) =
     }
 
 pub turned : (d : Design) (m given : Map) (rule : List (List Row) → List Row → Row → Type 0) (turns : List (List Row) → List Row → Type 0)
-    (runs then : Design → Values → List Row → List Row → Type 0) (was last : Row) (past : List (List Row)) (here : List Row)
+    (runs then : Design → Values → List (List Row) → List Row → Type 0) (was last : Row) (past : List (List Row)) (here : List Row)
     → given ≡ m → last.valids ≡ 0 → 0 < length here → turns past here
-    → ((s : Values) → runs d s (rows_of past) here → BeginsBehind d given then (rows_of past ++ here))
+    → ((s : Values) → runs d s past here → BeginsBehind d given then (and_stretch past here))
     → PlayStretches d m rule turns runs was past here → PlayStretches d m rule turns then last (and_stretch past here) []
 turned d m given rule turns runs then was last past here same silent some turn resets at =
     let b = resets (at.played.last.driven.state (length here)) at.at in
@@ -146,16 +146,15 @@ turned d m given rule turns runs then was last past here same silent some turn r
         last = g.played;
         unturned = unturned-nil turns (and_stretch past here);
       };
-      at = subst (λ (v : Values). then d v (rows_of (and_stretch past here)) []) (sym g.state)
-          (subst (λ (rs : List Row). then d b.0 rs []) (sym (rows-push past here)) b.2);
+      at = subst (λ (v : Values). then d v (and_stretch past here) []) (sym g.state) b.2;
       stable = record { before = all-push (AreStable m.channels) past here at.stable.before at.stable.last; last = stable-nil m.channels };
       last_is = silent;
     }
 
 -- ---- where a stage goes on behind the same rows
 pub stays : (d : Design) (m : Map) (rule : List (List Row) → List Row → Row → Type 0) (turns : List (List Row) → List Row → Type 0)
-    (runs then : Design → Values → List Row → List Row → Type 0) (last : Row) (past : List (List Row)) (here : List Row)
-    → ((s : Values) → runs d s (rows_of past) here → then d s (rows_of past) here) → PlayStretches d m rule turns runs last past here
+    (runs then : Design → Values → List (List Row) → List Row → Type 0) (last : Row) (past : List (List Row)) (here : List Row)
+    → ((s : Values) → runs d s past here → then d s past here) → PlayStretches d m rule turns runs last past here
     → PlayStretches d m rule turns then last past here
 stays d m rule turns runs then last past here on at = record {
   played = at.played;
@@ -171,7 +170,7 @@ over-last m rule turns past here row are = ∥∥₁_elim are.played (over_prop 
 
 -- ---- whatever the design
 pub ruled-of : (m : Map) (rule : List (List Row) → List Row → Row → Type 0) (turns : List (List Row) → List Row → Type 0)
-    (runs begun : Design → Values → List Row → List Row → Type 0) (last : Row) (past : List (List Row)) (here : List Row)
+    (runs begun : Design → Values → List (List Row) → List Row → Type 0) (last : Row) (past : List (List Row)) (here : List Row)
     → ∥ ((d : Design) × BeginsBehind d m begun []) ∥₁ → ((d : Design) → BeginsBehind d m begun [] → PlayStretches d m rule turns runs last past here)
     → AllAreStable m.channels past here → AreRuledStretches m rule turns past here
 ruled-of m rule turns runs begun last past here some plays stable = record {

@@ -33,7 +33,7 @@ pub fresh-not : (past : List (List Row)) (here : List Row) (row : Row) → past 
 fresh-not [] here row e f = f
 fresh-not (rows ∷ past) here row e f = absurd (cc)
 
-pub plays-on : (d : Design) (m : Map) (rule : List Row → Row → Type 0) (runs : Design → Values → List Row → List Row → Type 0) (last : Row)
+pub plays-on : (d : Design) (m : Map) (rule : List Row → Row → Type 0) (runs : Design → Values → List (List Row) → List Row → Type 0) (last : Row)
     (past : List (List Row)) (here : List Row) → past ≡ [] → PlayStretches d m (λ p. rule) Never runs last past here
     → Plays d m rule (since runs) last here
 plays-on d m rule runs last [] here e at = record {

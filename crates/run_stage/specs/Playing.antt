@@ -22,7 +22,7 @@ pub record IsShown (d : Design) (m : Map) (s : Values) (rows : List Row) (allows
   pub step : IsStep d m s row after
 
 -- what a stage runs where it wasn't reset in mid-run: after these rows
-abbrev pub since : (Design → Values → List Row → List Row → Type 0) → Design → Values → List Row → Type 0
+abbrev pub since : (Design → Values → List (List Row) → List Row → Type 0) → Design → Values → List Row → Type 0
 since runs d s rows = runs d s [] rows
 
 -- a stage was reset and has shown no row since

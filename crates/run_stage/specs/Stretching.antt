@@ -15,12 +15,12 @@ use Rattle.run_stage.specs.declared.ending.Ending.TheVariants.{Whole, Done, Unst
 use Rattle.run_stage.specs.Playing.{IsLast}
 
 -- the clock commits the row
-abbrev pub GoesTo : (Design → Values → List Row → List Row → Type 0) → Design → Map → Values → List Row → List Row → Row → Type 0
-GoesTo runs d m s before rows row = (after : Values) × IsStep d m s row after × runs d after before (rows ++ row ∷ [])
+abbrev pub GoesTo : (Design → Values → List (List Row) → List Row → Type 0) → Design → Map → Values → List (List Row) → List Row → Row → Type 0
+GoesTo runs d m s past here row = (after : Values) × IsStep d m s row after × runs d after past (here ++ row ∷ [])
 
--- a stage was reset behind these rows and has shown no row since
-abbrev pub BeginsBehind : Design → Map → (Design → Values → List Row → List Row → Type 0) → List Row → Type 0
-BeginsBehind d m runs before = (first : Values) × IsFirst d m first × runs d first before []
+-- a stage was reset behind these stretches and has shown no row since
+abbrev pub BeginsBehind : Design → Map → (Design → Values → List (List Row) → List Row → Type 0) → List (List Row) → Type 0
+BeginsBehind d m runs past = (first : Values) × IsFirst d m first × runs d first past []
 
 -- all rows, one after the other
 abbrev pub all_rows : List (List Row) → List Row → List Row
@@ -46,9 +46,9 @@ pub record AllAreStable (channels : List Channel) (past : List (List Row)) (here
 
 -- the rows are played under the rule, none of them is unstable, and the stage stands behind them
 pub record PlayStretches (d : Design) (m : Map) (rule : List (List Row) → List Row → Row → Type 0) (turns : List (List Row) → List Row → Type 0)
-    (runs : Design → Values → List Row → List Row → Type 0) (last : Row) (past : List (List Row)) (here : List Row) : Type 0 where
+    (runs : Design → Values → List (List Row) → List Row → Type 0) (last : Row) (past : List (List Row)) (here : List Row) : Type 0 where
   pub played : ArePlayed d m rule turns past here
-  pub at : runs d (played.last.driven.state (length here)) (rows_of past) here
+  pub at : runs d (played.last.driven.state (length here)) past here
   pub stable : AllAreStable m.channels past here
   pub last_is : IsLast (row_before here (length here)) last
 

@@ -37,10 +37,10 @@ fn turn<G: Given, S: Stage<G>, P: StretchPlayer<G>>(
         → 0 < length here → P.map first ≡ map.now → AreRuledStretches map.now (P.rule first) (P.turns first) past here
         → IsLast (row_before here (length here)) rows.old.last
         → P.turns first past here × P.stands first player.new (and_stretch past here) [] }
-    ensures resets { result ≡ true → (first : P) (d : Design) (past : List (List OneRow)) (here : List OneRow)
+    ensures resets { result ≡ true → (first : P) (start : S) (d : Design) (past : List (List OneRow)) (here : List OneRow)
         → 0 < length here → P.turns first past here
-        → PlayStretches d map.now (P.rule first) (P.turns first) (S.runs stage.old) rows.old.last past here
-        → PlayStretches d map.now (P.rule first) (P.turns first) (S.runs stage.new) rows.new.last (and_stretch past here) [] }
+        → PlayStretches d map.now (P.rule first) (P.turns first) (S.runs start stage.old) rows.old.last past here
+        → PlayStretches d map.now (P.rule first) (P.turns first) (S.runs start stage.new) rows.new.last (and_stretch past here) [] }
     ensures silent { result ≡ true → (rows.new.last.valids ≡ 0) × (0 < cycle) }
     ensures on { result ≡ false → (first : P) (past : List (List OneRow)) (here : List OneRow) → P.stands first player.old past here
         → (0 < cycle → 0 < length here) → length here ≤ cycle → P.map first ≡ map.now
@@ -75,17 +75,17 @@ fn play_cycle<G: Given, S: Stage<G>, P: StretchPlayer<G>>(
         × (P.map first ≡ map.now) }
     requires rows { AreOver map.now.channels rows.old }
     requires few { S.cycles stage.old < MOST_CYCLES }
-    ensures on { result ≡ None → (first : P) (d : Design) (past : List (List OneRow)) (here : List OneRow) → P.stands first player.now past here
+    ensures on { result ≡ None → (first : P) (start : S) (d : Design) (past : List (List OneRow)) (here : List OneRow) → P.stands first player.now past here
         → P.map first ≡ map.now → fresh ≡ is_fresh_behind past here → GoesOn (P.turns first) past here
-        → PlayStretches d map.now (P.rule first) (P.turns first) (S.runs stage.old) rows.old.last past here
-        → PlayStretches d map.now (P.rule first) (P.turns first) (S.runs stage.new) rows.new.last past (here ++ rows.new.last ∷ []) }
+        → PlayStretches d map.now (P.rule first) (P.turns first) (S.runs start stage.old) rows.old.last past here
+        → PlayStretches d map.now (P.rule first) (P.turns first) (S.runs start stage.new) rows.new.last past (here ++ rows.new.last ∷ []) }
     ensures stable { result ≡ None → (past : List (List OneRow)) (here : List OneRow) → IsLast (row_before here (length here)) rows.old.last
         → AllAreStable map.now.channels past here → AllAreStable map.now.channels past (here ++ rows.new.last ∷ []) }
-    ensures stops { (c : ℕ) → result ≡ Some c → (first : P) (d : Design) (past : List (List OneRow)) (here : List OneRow)
+    ensures stops { (c : ℕ) → result ≡ Some c → (first : P) (start : S) (d : Design) (past : List (List OneRow)) (here : List OneRow)
         → P.stands first player.now past here → P.map first ≡ map.now → fresh ≡ is_fresh_behind past here
-        → PlayStretches d map.now (P.rule first) (P.turns first) (S.runs stage.old) rows.old.last past here
+        → PlayStretches d map.now (P.rule first) (P.turns first) (S.runs start stage.old) rows.old.last past here
         → StopsBefore d map.now (P.rule first past) here c
-        × PlayStretches d map.now (P.rule first) (P.turns first) (S.runs stage.new) rows.new.last past here }
+        × PlayStretches d map.now (P.rule first) (P.turns first) (S.runs start stage.new) rows.new.last past here }
     ensures rows { AreOver map.now.channels rows.new }
     ensures cycles { S.cycles stage.new ≤ S.cycles stage.old + 1 }
     ensures map { S.map stage.new ≡ S.map stage.old }
@@ -118,7 +118,7 @@ pub fn play_stretches<G: Given, S: Stage<G>, P: StretchPlayer<G>>(
 ) -> Result<Ending, P::Fault>
     requires mapped { S.map stage.old ≡ map.now }
     requires same { P.map player.old ≡ map.now }
-    requires begun { ∥ ((d : Design) × BeginsBehind d map.now (S.runs stage.old) []) ∥₁ }
+    requires begun { ∥ ((d : Design) × BeginsBehind d map.now (S.runs stage.old stage.old) []) ∥₁ }
     requires reset { S.cycles stage.old ≡ 0 }
     requires stands { P.stands player.old player.old [] [] }
     requires few { cycles ≤ MOST_CYCLES }
@@ -127,13 +127,13 @@ pub fn play_stretches<G: Given, S: Stage<G>, P: StretchPlayer<G>>(
     requires silent { rows.old.last.valids ≡ 0 }
     ensures ok { IfOk result (λ ending. (past : List (List OneRow)) × (here : List OneRow) × P.stands player.old player.new past here
         × HaveCome (P.ends player.old) cycles past here × CameBehind (P.ends player.old) cycles past here ending
-        × ((d : Design) → BeginsBehind d map.now (S.runs stage.old) []
-        → PlayStretches d map.now (P.rule player.old) (P.turns player.old) (S.runs stage.new) rows.new.last past here
+        × ((d : Design) → BeginsBehind d map.now (S.runs stage.old stage.old) []
+        → PlayStretches d map.now (P.rule player.old) (P.turns player.old) (S.runs stage.old stage.new) rows.new.last past here
         × StopIn d map.now (P.rule player.old) (P.turns player.old) past here ending)) }
     ensures fault { IfErr result (λ fault. (past : List (List OneRow)) × (here : List OneRow) × P.broke player.old player.new past here fault
         × HaveCome (P.ends player.old) cycles past here
-        × ((d : Design) → BeginsBehind d map.now (S.runs stage.old) []
-        → PlayStretches d map.now (P.rule player.old) (P.turns player.old) (S.runs stage.new) rows.new.last past here)) }
+        × ((d : Design) → BeginsBehind d map.now (S.runs stage.old stage.old) []
+        → PlayStretches d map.now (P.rule player.old) (P.turns player.old) (S.runs stage.old stage.new) rows.new.last past here)) }
     ensures rows { AreOver map.now.channels rows.new }
     ensures map { S.map stage.new ≡ S.map stage.old }
     ensures place { S.place stage.new ≡ S.place stage.old }

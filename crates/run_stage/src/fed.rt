@@ -9,7 +9,7 @@ impl<S: ReplayShell> Stage<Feed> for S {
 
     ghost map = { S.map };
 
-    ghost runs = { λ s d state before rows. S.runs s d state rows };
+    ghost runs = { λ first s d state past here. S.runs s d state here };
 
     ghost driven = { S.driven };
 

@@ -11,7 +11,7 @@ impl<S: Shell> Stage<Gated> for S {
 
     ghost map = { S.map };
 
-    ghost runs = { λ s d state before rows. S.runs s d state (row_before rows (length rows)) };
+    ghost runs = { λ first s d state past here. S.runs s d state (row_before here (length here)) };
 
     ghost driven = { S.driven };
 

@@ -1,6 +1,6 @@
 //! Designs that run cycle by cycle.
 
-ghost use Rattle.std.specs.Prelude.{◌≡◌, ◌+◌, ◌++◌, ◌<◌, ◌≤◌, ℕ, List, Option};
+ghost use Rattle.std.specs.Prelude.{◌≡◌, ◌+◌, ◌<◌, ◌≤◌, ℕ, List, Option};
 ghost use Rattle.std.specs.Borrow.{GName};
 ghost use Rattle.chan_replayer.specs.trace_model.declared.packet.TheConstants.{MOST_CYCLES};
 ghost use Rattle.chan_replayer.specs.trace_model.declared.row.Row.{Row};
@@ -9,6 +9,7 @@ ghost use Rattle.net_design.specs.declared.design.Design.{Design};
 ghost use Rattle.net_design.specs.declared.values.Values.{Values};
 ghost use Rattle.chan_replayer.specs.chan_map.declared.pins.Map.{Map};
 ghost use Rattle.chan_replayer.specs.chan_monitor.Shell.{HasPlaces};
+ghost use Rattle.chan_replayer.specs.run_model.Stretches.{and_stretch};
 ghost use Rattle.run_stage.specs.Playing.{IsShown};
 ghost use Rattle.run_stage.specs.Stretching.{BeginsBehind, GoesTo};
 
@@ -20,9 +21,9 @@ pub trait Stage<G: Given> {
     /// The map of the design's channels, which stays the same.
     ghost map: { Self → Map };
 
-    /// The stage runs this design; the next cycle begins in this state, after the first rows, and then these since it was made or last
-    /// reset.
-    ghost runs: { Self → Design → Values → List Row → List Row → Type 0 };
+    /// It began as the first stage, which had shown no row since its reset, and runs this design. The next cycle begins in this state, behind
+    /// these stretches of rows, each of which a reset ended, and these rows since.
+    ghost runs: { Self → Self → Design → Values → List (List Row) → List Row → Type 0 };
 
     /// The last `drive` filled this row, and there was no `clock` and no `reset` since.
     ghost driven: { Self → Row → Type 0 };
@@ -41,8 +42,8 @@ pub trait Stage<G: Given> {
 
     /// Loads the design and runs the map's reset cycles: the next cycle begins in s_0, after no row.
     fn reset(&mut self)
-        ensures first { (d : Design) (s : Values) (before rows : List Row) → runs self.old d s before rows
-            → BeginsBehind d (map self.old) (runs self.new) (before ++ rows) }
+        ensures first { (first : Self) (d : Design) (s : Values) (past : List (List Row)) (here : List Row) → runs first self.old d s past here
+            → BeginsBehind d (map self.old) (runs first self.new) (and_stretch past here) }
         ensures cycles { cycles self.new ≡ 0 }
         ensures map { map self.new ≡ map self.old }
         ensures place { place self.new ≡ place self.old }
@@ -54,10 +55,11 @@ pub trait Stage<G: Given> {
         requires fits { G.fits (map self.old).channels given.now }
         requires places { HasPlaces (map self.old).channels row.old }
         ensures over { IsOver (map self.old).channels row.new }
-        ensures row { (d : Design) (s : Values) (before rows : List Row) → runs self.old d s before rows
-            → IsShown d (map self.old) s rows (G.allows (map self.old).channels given.now) row.new }
+        ensures row { (first : Self) (d : Design) (s : Values) (past : List (List Row)) (here : List Row) → runs first self.old d s past here
+            → IsShown d (map self.old) s here (G.allows (map self.old).channels given.now) row.new }
         ensures fresh { row.new.fresh ≡ row.old.fresh }
-        ensures runs { (d : Design) (s : Values) (before rows : List Row) → runs self.old d s before rows → runs self.new d s before rows }
+        ensures runs { (first : Self) (d : Design) (s : Values) (past : List (List Row)) (here : List Row) → runs first self.old d s past here
+            → runs first self.new d s past here }
         ensures driven { driven self.new row.new }
         ensures cycles { cycles self.new ≡ cycles self.old }
         ensures map { map self.new ≡ map self.old }
@@ -69,8 +71,8 @@ pub trait Stage<G: Given> {
     fn clock(&mut self)
         requires driven { (row : Row) × driven self.old row }
         requires few { cycles self.old < MOST_CYCLES }
-        ensures next { (d : Design) (s : Values) (before rows : List Row) (row : Row) → runs self.old d s before rows → driven self.old row
-            → GoesTo (runs self.new) d (map self.old) s before rows row }
+        ensures next { (first : Self) (d : Design) (s : Values) (past : List (List Row)) (here : List Row) (row : Row)
+            → runs first self.old d s past here → driven self.old row → GoesTo (runs first self.new) d (map self.old) s past here row }
         ensures cycles { cycles self.new ≤ cycles self.old + 1 }
         ensures map { map self.new ≡ map self.old }
         ensures place { place self.new ≡ place self.old }

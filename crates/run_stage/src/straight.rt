@@ -68,7 +68,7 @@ fn play_straight<G: Given, S: Stage<G>, P: Player<G>>(
 ) -> Result<Ending, P::Fault>
     requires mapped { S.map stage.old ≡ map.now }
     requires same { P.map straight.old.player.now ≡ map.now }
-    requires begun { ∥ ((d : Design) × Begins d map.now (since (S.runs stage.old))) ∥₁ }
+    requires begun { ∥ ((d : Design) × Begins d map.now (since (S.runs stage.old stage.old))) ∥₁ }
     requires reset { S.cycles stage.old ≡ 0 }
     requires stands { P.stands straight.old.player.now straight.old.player.now [] }
     requires few { cycles ≤ MOST_CYCLES }
@@ -77,14 +77,14 @@ fn play_straight<G: Given, S: Stage<G>, P: Player<G>>(
     requires silent { rows.old.last.valids ≡ 0 }
     ensures ok { IfOk result (λ ending. (played : List OneRow) × P.stands straight.old.player.now straight.new.player.now played
         × HasCome (P.ends straight.old.player.now) cycles played × Came (P.ends straight.old.player.now) cycles played ending
-        × ((d : Design) → Begins d map.now (since (S.runs stage.old))
-        → Plays d map.now (P.rule straight.old.player.now) (since (S.runs stage.new)) rows.new.last played
+        × ((d : Design) → Begins d map.now (since (S.runs stage.old stage.old))
+        → Plays d map.now (P.rule straight.old.player.now) (since (S.runs stage.old stage.new)) rows.new.last played
         × Stops d map.now (P.rule straight.old.player.now) played ending)) }
     ensures fault { IfErr result (λ fault. (played : List OneRow)
         × P.broke straight.old.player.now straight.new.player.now played fault
         × HasCome (P.ends straight.old.player.now) cycles played
-        × ((d : Design) → Begins d map.now (since (S.runs stage.old))
-        → Plays d map.now (P.rule straight.old.player.now) (since (S.runs stage.new)) rows.new.last played)) }
+        × ((d : Design) → Begins d map.now (since (S.runs stage.old stage.old))
+        → Plays d map.now (P.rule straight.old.player.now) (since (S.runs stage.old stage.new)) rows.new.last played)) }
     ensures name { straight.new.player.ghost_name ≡ straight.old.player.ghost_name }
     ensures rows { AreOver map.now.channels rows.new }
     ensures map { S.map stage.new ≡ S.map stage.old }
@@ -104,7 +104,7 @@ pub fn play<G: Given, S: Stage<G>, P: Player<G>>(
 ) -> Result<Ending, P::Fault>
     requires mapped { S.map stage.old ≡ map.now }
     requires same { P.map player.old ≡ map.now }
-    requires begun { ∥ ((d : Design) × Begins d map.now (since (S.runs stage.old))) ∥₁ }
+    requires begun { ∥ ((d : Design) × Begins d map.now (since (S.runs stage.old stage.old))) ∥₁ }
     requires reset { S.cycles stage.old ≡ 0 }
     requires stands { P.stands player.old player.old [] }
     requires few { cycles ≤ MOST_CYCLES }
@@ -113,13 +113,13 @@ pub fn play<G: Given, S: Stage<G>, P: Player<G>>(
     requires silent { rows.old.last.valids ≡ 0 }
     ensures ok { IfOk result (λ ending. (played : List OneRow) × P.stands player.old player.new played
         × HasCome (P.ends player.old) cycles played × Came (P.ends player.old) cycles played ending
-        × ((d : Design) → Begins d map.now (since (S.runs stage.old))
-        → Plays d map.now (P.rule player.old) (since (S.runs stage.new)) rows.new.last played
+        × ((d : Design) → Begins d map.now (since (S.runs stage.old stage.old))
+        → Plays d map.now (P.rule player.old) (since (S.runs stage.old stage.new)) rows.new.last played
         × Stops d map.now (P.rule player.old) played ending)) }
     ensures fault { IfErr result (λ fault. (played : List OneRow) × P.broke player.old player.new played fault
         × HasCome (P.ends player.old) cycles played
-        × ((d : Design) → Begins d map.now (since (S.runs stage.old))
-        → Plays d map.now (P.rule player.old) (since (S.runs stage.new)) rows.new.last played)) }
+        × ((d : Design) → Begins d map.now (since (S.runs stage.old stage.old))
+        → Plays d map.now (P.rule player.old) (since (S.runs stage.old stage.new)) rows.new.last played)) }
     ensures rows { AreOver map.now.channels rows.new }
     ensures map { S.map stage.new ≡ S.map stage.old }
     ensures place { S.place stage.new ≡ S.place stage.old }

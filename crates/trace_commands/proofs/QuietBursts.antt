@@ -27,7 +27,7 @@ mute-no_axi bytes x (error, is, s) = mute-refusal_for words.Axi (axi_reason erro
 mute-unbound : (text : AxiText) (channels : List Channel) → Mute (IsUnbound text channels)
 mute-unbound text channels x (error, is, s) = mute-refusal_for words.Axi (axi_reason error) x s
 
-mute-porting : (bytes : List ℕ) (channels : List Channel) (Next : Axi → Ending) → ((axi : Axi) → Mute (Next axi))
+pub mute-porting : (bytes : List ℕ) (channels : List Channel) (Next : Axi → Ending) → ((axi : Axi) → Mute (Next axi))
     → Mute (Porting bytes channels Next)
 mute-porting bytes channels Next mute x (inl unsaid) = mute-no_axi bytes x unsaid
 mute-porting bytes channels Next mute x (inr (text, reads, inl unbound)) = mute-unbound text channels x unbound

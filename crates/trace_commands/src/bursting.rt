@@ -66,7 +66,7 @@ fn fit_trace(alloc: Global, file: Bytes) -> Result<Trace, Ended>
 }
 
 /// What the bytes of an AXI file say of channels.
-fn axi_over(alloc: Global, text: &[u8], channels: &Channels) -> Result<Axi, Ended>
+pub fn axi_over(alloc: Global, text: &[u8], channels: &Channels) -> Result<Axi, Ended>
     requires { length text.now ≤ text_limit }
     ensures bound { IfOk result (λ axi. (said : OneText) × ReadsAxi text.now (Ok said) × BindsAxi said channels.now (Ok axi)) }
     ensures refused { IfErr result (EndsWith (Porting text.now channels.now (λ _. Never))) }

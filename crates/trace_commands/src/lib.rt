@@ -11,7 +11,7 @@ mod salvaging;
 mod writing;
 
 pub use axi_burst;
-pub use bursting::bursts;
+pub use bursting::{axi_over, bursts};
 pub use comparing::compare;
 pub use dumping::dump;
 pub use migrating::migrate;

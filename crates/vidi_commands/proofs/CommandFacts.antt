@@ -1,5 +1,5 @@
 -- What is known of each command: one list.
-use Rattle.vidi_commands.specs.Command.{Command, Dump, Check, Run, Record, Replay, Compare, Salvage, Migrate, Bursts, Move, Wrap, Sample}
+use Rattle.vidi_commands.specs.Command.{Command, Dump, Check, Run, Record, Replay, Serve, Compare, Salvage, Migrate, Bursts, Move, Wrap, Sample}
 use Rattle.vidi_commands.specs.Answer.{Does, StopsIn}
 use Rattle.trace_commands.specs.Bursts as grouping
 use Rattle.trace_commands.specs.Moves.{IsMovedOf, IsUnmoved}
@@ -18,6 +18,7 @@ use Rattle.sample_command.proofs.QuietSamples.{mute-samples}
 use Rattle.vidi_commands.proofs.Facts.{Facts, reads-facts}
 use Rattle.vidi_commands.proofs.RecordFacts.{record-facts}
 use Rattle.vidi_commands.proofs.ReplayFacts.{replay-facts}
+use Rattle.vidi_commands.proofs.ServeFacts.{serve-facts}
 use Rattle.vidi_commands.proofs.WrapFacts.{wrap-facts}
 use Rattle.vidi_commands.proofs.WrittenFacts.{written-facts}
 
@@ -27,6 +28,7 @@ facts (Check design top) = reads-facts (Checks design top) (mute-checks design t
 facts (Run design map script) = reads-facts (Runs design map script) (mute-runs design map script) (quiet-runs design map script)
 facts (Record design map script stalls trace) = record-facts design map script stalls trace
 facts (Replay design map trace cycles out) = replay-facts design map trace cycles out
+facts (Serve design map axi stalls cycles trace) = serve-facts design map axi stalls cycles trace
 facts (Compare trace other) = reads-facts (Compares trace other) (mute-compares trace other) (quiet-compares trace other)
 facts (Salvage trace out) = written-facts (IsUnsaved trace) (IsWhole trace) salvaged_line out (mute-unsaved trace) (quiet-unsaved trace)
 facts (Migrate trace out) =

@@ -2,6 +2,7 @@ pub mod WordLists
 pub mod Facts
 pub mod RecordFacts
 pub mod ReplayFacts
+pub mod ServeFacts
 pub mod WrittenFacts
 pub mod WrapFacts
 pub mod CommandFacts

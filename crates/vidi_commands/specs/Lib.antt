@@ -14,6 +14,7 @@ pub use Rattle.sample_command.specs.run_commands as run_commands
 pub use Rattle.wrap_command.specs.run_model as run_model
 pub use Rattle.sample_command.specs as sample_command
 pub use Rattle.sample_command.specs.sample_gen as sample_gen
+pub use Rattle.serve_command.specs as serve_command
 pub use Rattle.wrap_command.specs.shim_trees as shim_trees
 pub use Rattle.sample_command.specs.trace_code as trace_code
 pub use Rattle.trace_commands.specs as trace_commands

@@ -22,7 +22,7 @@ returns-clause-ends g c =
           let first = c.args.feeder.now in
           let begins = subst (λ (b : Map). Begins d b (g.S.ReplayShell.runs c.reset.new.self)) c.requires.mapped (c.reset.ensures.first d s before is) in
           let each = ok.5 d begins in
-          let runs : Design → Values → List Row → List Row → Type 0 =
+          let runs : Design → Values → List (List Row) → List Row → Type 0 =
           λ e state before rows. g.S.ReplayShell.runs c.play_stretches.new.stage e state rows in (
             plays-to first m c.requires.same t encodes d runs c.play_stretches.new.rows.last first.cycles ok.0 ok.1 ok.3 each.0 _ ok.4 each.1,
             plays-of first m c.requires.same t encodes d runs c.play_stretches.new.rows.last ok.0 ok.1 each.0,

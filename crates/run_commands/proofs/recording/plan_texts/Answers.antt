@@ -1,5 +1,6 @@
 use Rattle.std.proofs.Common.{inl, inr}
 use Rattle.vidi_bench.specs.Benches.{RefusedTexts}
+use Rattle.vidi_bench.specs.Ended.{EndsWith}
 use Rattle.run_commands.specs.Records.{RefusedPlanned, RefusedStore}
 use Rattle.vidi_bench.proofs.Chain.{passed-as}
 use Rattle.run_commands.proofs.recording.plan_texts.Goals as goal
@@ -14,6 +15,9 @@ pub returns-in_err-store-clause-refused : goal.returns-in_err-store-clause-refus
 returns-in_err-store-clause-refused c =
     let texts = c.args.texts.now in
     let bench = c.in_ok-bench.bench in
-    passed-as (RefusedStore c.args.stalls.now bench.device.map.channels bench.script) (RefusedPlanned texts.design texts.map texts.script c.args.stalls.now)
+    let refused : EndsWith (RefusedStore c.args.stalls.now bench.device.map.channels bench.script) c.in_err-store.field-0.0 =
+    rw c.has_resets-resets.ensures at c.in_err-store.ensures.refused in
+    passed-as (RefusedStore c.args.stalls.now bench.device.map.channels bench.script)
+    (RefusedPlanned texts.design texts.map texts.script c.args.stalls.now)
     c.in_err-store.field-0.0 c.from_residual-in_err-store.result c.from_residual-in_err-store.ensures.1
-    (λ a x is. inr (bench, c.in_ok-bench.ensures.ready, is)) c.in_err-store.ensures.refused
+    (λ a x is. inr (bench, c.in_ok-bench.ensures.ready, is)) refused

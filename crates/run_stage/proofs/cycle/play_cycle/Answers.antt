@@ -10,20 +10,20 @@ use Rattle.run_stage.proofs.Turning.{stable-kept}
 use Rattle.run_stage.proofs.cycle.play_cycle.Goals as goal
 
 pub returns-in-Some-clause-stops : goal.returns-in-Some-clause-stops
-returns-in-Some-clause-stops g c k same first d past here stands mapped fresh at =
+returns-in-Some-clause-stops g c k same first start d past here stands mapped fresh at =
     let m = c.args.map.now in
     let given = g.S.Stage.map c.args.stage.now in
-    let runs = g.S.Stage.runs c.args.stage.now in
+    let runs = g.S.Stage.runs start c.args.stage.now in
     let rule = g.P.StretchPlayer.rule first in
     let turns = g.P.StretchPlayer.turns first in
     let allows = g.G.Given.allows given.channels c.given.result.now in
     let ruled = subst (λ (n : Map). (r : Row) → g.G.Given.allows n.channels c.given.result.now here r → r.fresh ≡ is_fresh_behind past here
     → rule past here r) (mapped ∙ sym c.requires.mapped) (λ r. c.given.ensures.ruled first past here r stands) in (
       stops d m given rule turns allows runs past here c.args.rows.now.last c.drive.new.row c.requires.mapped ruled at
-          (c.drive.ensures.row d) (c.drive.ensures.fresh ∙ fresh) k
+          (c.drive.ensures.row start d) (c.drive.ensures.fresh ∙ fresh) k
           (subst (λ (o : Option ℕ). IsLowestUnstable m.channels c.args.rows.now.last c.drive.new.row o) same c.in-Some.ensures),
-      stays d m rule turns runs (g.S.Stage.runs c.drive.new.self) c.args.rows.now.last past here
-          (λ s on. c.drive.ensures.runs d s _ here on) at,
+      stays d m rule turns runs (g.S.Stage.runs start c.drive.new.self) c.args.rows.now.last past here
+          (λ s on. c.drive.ensures.runs start d s _ here on) at,
     )
 
 pub returns-in-Some-clause-rows : goal.returns-in-Some-clause-rows
@@ -34,19 +34,19 @@ returns-in-Some-clause-rows g c = record {
 }
 
 pub returns-clause-on : goal.returns-clause-on
-returns-clause-on g c same first d past here stands mapped fresh on at =
+returns-clause-on g c same first start d past here stands mapped fresh on at =
     let m = c.args.map.now in
     let given = g.S.Stage.map c.args.stage.now in
-    let runs = g.S.Stage.runs c.args.stage.now in
+    let runs = g.S.Stage.runs start c.args.stage.now in
     let rule = g.P.StretchPlayer.rule first in
     let turns = g.P.StretchPlayer.turns first in
     let allows = g.G.Given.allows given.channels c.given.result.now in
     let ruled = subst (λ (n : Map). (r : Row) → g.G.Given.allows n.channels c.given.result.now here r → r.fresh ≡ is_fresh_behind past here
     → rule past here r) (mapped ∙ sym c.requires.mapped) (λ r. c.given.ensures.ruled first past here r stands) in
     next d m given rule turns allows runs past here c.args.rows.now.last c.drive.new.row c.requires.mapped ruled at
-    (c.drive.ensures.row d) (c.drive.ensures.fresh ∙ fresh) c.swap.new.y c.swap.ensures.y_after
-    (g.S.Stage.runs c.clock.new.self) (g.S.Stage.map c.drive.new.self) (c.drive.ensures.map ∙ c.requires.mapped) on
-    (λ s before runs. c.clock.ensures.next d s before here c.drive.new.row (c.drive.ensures.runs d s before here runs) c.drive.ensures.driven)
+    (c.drive.ensures.row start d) (c.drive.ensures.fresh ∙ fresh) c.swap.new.y c.swap.ensures.y_after
+    (g.S.Stage.runs start c.clock.new.self) (g.S.Stage.map c.drive.new.self) (c.drive.ensures.map ∙ c.requires.mapped) on
+    (λ s before runs. c.clock.ensures.next start d s before here c.drive.new.row (c.drive.ensures.runs start d s before here runs) c.drive.ensures.driven)
     c.in_default.ensures
 
 pub returns-clause-stable : goal.returns-clause-stable

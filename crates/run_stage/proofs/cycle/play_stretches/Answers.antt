@@ -6,7 +6,6 @@ use Rattle.chan_replayer.specs.trace_model.Row.{IsOver}
 use Rattle.net_design.specs.declared.design.Design.{Design}
 use Rattle.chan_replayer.specs.chan_map.declared.pins.Map.{Map}
 use Rattle.chan_replayer.specs.run_model.Played.{StopsBefore}
-use Rattle.chan_replayer.specs.run_model.Stretches.{rows_of}
 use Rattle.run_stage.specs.Stretching.{AreRuledStretches, BeginsBehind, PlayStretches}
 use Rattle.run_stage.specs.declared.two_rows.TwoRows.{TwoRows}
 use Rattle.run_stage.proofs.After.{after, asked-unless, here-long, some-before}
@@ -19,7 +18,7 @@ loop-cycle-init g c =
     let m = c.args.map.now in
     let rule = g.P.StretchPlayer.rule c.args.player.now in
     let turns = g.P.StretchPlayer.turns c.args.player.now in
-    let runs = g.S.Stage.runs c.args.stage.now in
+    let runs = g.S.Stage.runs c.args.stage.now c.args.stage.now in
     record {
       past = [];
       here = [];
@@ -72,14 +71,14 @@ play_cycle-requires-clause-stands g c =
     let now = ends-now m rule turns ends (g.P.StretchPlayer.map first) c.requires.same inv.past inv.here c.loop-cycle.rows.last c.is_done.result
     false c.if-is_done.false (c.is_done.ensures first inv.past inv.here inv.stands) inv.ruled inv.last_is in
     let at = after m rule turns ends (g.P.StretchPlayer.stands first c.loop-cycle.player) (g.P.StretchPlayer.stands first c.turn-fresh.new.player)
-    (g.S.Stage.runs c.args.stage.now) (g.S.Stage.runs c.loop-cycle.stage) (g.S.Stage.runs c.turn-fresh.new.stage)
+    (g.S.Stage.runs c.args.stage.now c.args.stage.now) (g.S.Stage.runs c.args.stage.now c.loop-cycle.stage) (g.S.Stage.runs c.args.stage.now c.turn-fresh.new.stage)
     c.loop-cycle.rows.last c.turn-fresh.new.rows.last c.turn-fresh.result c.loop-cycle.cycle inv.past inv.here inv.asked inv.long inv.going
     inv.before now inv.plays inv.ruled.stable inv.last_is
     (λ e some. c.turn-fresh.ensures.turned e first inv.past inv.here inv.stands some c.requires.same inv.ruled inv.last_is)
-    (λ e d some. c.turn-fresh.ensures.resets e first d inv.past inv.here some)
+    (λ e d some. c.turn-fresh.ensures.resets e first c.args.stage.now d inv.past inv.here some)
     (λ e. c.turn-fresh.ensures.silent e)
     (λ e some few. c.turn-fresh.ensures.on e first inv.past inv.here inv.stands some few c.requires.same inv.ruled inv.last_is)
-    (λ e d s on. subst (λ stage. g.S.Stage.runs stage d s (rows_of inv.past) inv.here) (sym (c.turn-fresh.ensures.same e).0) on)
+    (λ e d s on. subst (λ stage. g.S.Stage.runs c.args.stage.now stage d s inv.past inv.here) (sym (c.turn-fresh.ensures.same e).0) on)
     (λ e. ap (λ (rows : TwoRows). rows.last) (c.turn-fresh.ensures.same e).1) in
     (first, at.past, at.here, at.stands, c.requires.same)
 
@@ -94,20 +93,20 @@ loop-cycle-preserved g c =
     let now = ends-now m rule turns ends (g.P.StretchPlayer.map first) c.requires.same inv.past inv.here c.loop-cycle.rows.last c.is_done.result
     false c.if-is_done.false (c.is_done.ensures first inv.past inv.here inv.stands) inv.ruled inv.last_is in
     let at = after m rule turns ends (g.P.StretchPlayer.stands first c.loop-cycle.player) (g.P.StretchPlayer.stands first c.turn-fresh.new.player)
-    (g.S.Stage.runs c.args.stage.now) (g.S.Stage.runs c.loop-cycle.stage) (g.S.Stage.runs c.turn-fresh.new.stage)
+    (g.S.Stage.runs c.args.stage.now c.args.stage.now) (g.S.Stage.runs c.args.stage.now c.loop-cycle.stage) (g.S.Stage.runs c.args.stage.now c.turn-fresh.new.stage)
     c.loop-cycle.rows.last c.turn-fresh.new.rows.last c.turn-fresh.result c.loop-cycle.cycle inv.past inv.here inv.asked inv.long inv.going
     inv.before now inv.plays inv.ruled.stable inv.last_is
     (λ e some. c.turn-fresh.ensures.turned e first inv.past inv.here inv.stands some c.requires.same inv.ruled inv.last_is)
-    (λ e d some. c.turn-fresh.ensures.resets e first d inv.past inv.here some)
+    (λ e d some. c.turn-fresh.ensures.resets e first c.args.stage.now d inv.past inv.here some)
     (λ e. c.turn-fresh.ensures.silent e)
     (λ e some few. c.turn-fresh.ensures.on e first inv.past inv.here inv.stands some few c.requires.same inv.ruled inv.last_is)
-    (λ e d s on. subst (λ stage. g.S.Stage.runs stage d s (rows_of inv.past) inv.here) (sym (c.turn-fresh.ensures.same e).0) on)
+    (λ e d s on. subst (λ stage. g.S.Stage.runs c.args.stage.now stage d s inv.past inv.here) (sym (c.turn-fresh.ensures.same e).0) on)
     (λ e. ap (λ (rows : TwoRows). rows.last) (c.turn-fresh.ensures.same e).1) in
     let last = c.play_cycle.new.rows.last in
-    let plays : (d : Design) → BeginsBehind d m (g.S.Stage.runs c.args.stage.now) []
-    → PlayStretches d m rule turns (g.S.Stage.runs c.play_cycle.new.stage) last at.past (at.here ++ last ∷ [])
-    = λ d begins. c.in_default.ensures.on refl first d at.past at.here at.stands c.requires.same at.fresh_is at.on (at.plays d begins) in
-    let ruled = ruled-of m rule turns (g.S.Stage.runs c.play_cycle.new.stage) (g.S.Stage.runs c.args.stage.now) last at.past
+    let plays : (d : Design) → BeginsBehind d m (g.S.Stage.runs c.args.stage.now c.args.stage.now) []
+    → PlayStretches d m rule turns (g.S.Stage.runs c.args.stage.now c.play_cycle.new.stage) last at.past (at.here ++ last ∷ [])
+    = λ d begins. c.in_default.ensures.on refl first c.args.stage.now d at.past at.here at.stands c.requires.same at.fresh_is at.on (at.plays d begins) in
+    let ruled = ruled-of m rule turns (g.S.Stage.runs c.args.stage.now c.play_cycle.new.stage) (g.S.Stage.runs c.args.stage.now c.args.stage.now) last at.past
     (at.here ++ last ∷ []) c.requires.begun plays (c.in_default.ensures.stable refl at.past at.here at.last_is at.stable) in
     let given = subst (λ (n : Map). AreRuledStretches n rule turns at.past (at.here ++ last ∷ [])) (sym c.requires.same) ruled in
     let long = length_push at.here last in
@@ -141,20 +140,20 @@ keep-requires g c =
     let now = ends-now m rule turns ends (g.P.StretchPlayer.map first) c.requires.same inv.past inv.here c.loop-cycle.rows.last c.is_done.result
     false c.if-is_done.false (c.is_done.ensures first inv.past inv.here inv.stands) inv.ruled inv.last_is in
     let at = after m rule turns ends (g.P.StretchPlayer.stands first c.loop-cycle.player) (g.P.StretchPlayer.stands first c.turn-fresh.new.player)
-    (g.S.Stage.runs c.args.stage.now) (g.S.Stage.runs c.loop-cycle.stage) (g.S.Stage.runs c.turn-fresh.new.stage)
+    (g.S.Stage.runs c.args.stage.now c.args.stage.now) (g.S.Stage.runs c.args.stage.now c.loop-cycle.stage) (g.S.Stage.runs c.args.stage.now c.turn-fresh.new.stage)
     c.loop-cycle.rows.last c.turn-fresh.new.rows.last c.turn-fresh.result c.loop-cycle.cycle inv.past inv.here inv.asked inv.long inv.going
     inv.before now inv.plays inv.ruled.stable inv.last_is
     (λ e some. c.turn-fresh.ensures.turned e first inv.past inv.here inv.stands some c.requires.same inv.ruled inv.last_is)
-    (λ e d some. c.turn-fresh.ensures.resets e first d inv.past inv.here some)
+    (λ e d some. c.turn-fresh.ensures.resets e first c.args.stage.now d inv.past inv.here some)
     (λ e. c.turn-fresh.ensures.silent e)
     (λ e some few. c.turn-fresh.ensures.on e first inv.past inv.here inv.stands some few c.requires.same inv.ruled inv.last_is)
-    (λ e d s on. subst (λ stage. g.S.Stage.runs stage d s (rows_of inv.past) inv.here) (sym (c.turn-fresh.ensures.same e).0) on)
+    (λ e d s on. subst (λ stage. g.S.Stage.runs c.args.stage.now stage d s inv.past inv.here) (sym (c.turn-fresh.ensures.same e).0) on)
     (λ e. ap (λ (rows : TwoRows). rows.last) (c.turn-fresh.ensures.same e).1) in
     let last = c.play_cycle.new.rows.last in
-    let plays : (d : Design) → BeginsBehind d m (g.S.Stage.runs c.args.stage.now) []
-    → PlayStretches d m rule turns (g.S.Stage.runs c.play_cycle.new.stage) last at.past (at.here ++ last ∷ [])
-    = λ d begins. c.in_default.ensures.on refl first d at.past at.here at.stands c.requires.same at.fresh_is at.on (at.plays d begins) in
-    let ruled = ruled-of m rule turns (g.S.Stage.runs c.play_cycle.new.stage) (g.S.Stage.runs c.args.stage.now) last at.past
+    let plays : (d : Design) → BeginsBehind d m (g.S.Stage.runs c.args.stage.now c.args.stage.now) []
+    → PlayStretches d m rule turns (g.S.Stage.runs c.args.stage.now c.play_cycle.new.stage) last at.past (at.here ++ last ∷ [])
+    = λ d begins. c.in_default.ensures.on refl first c.args.stage.now d at.past at.here at.stands c.requires.same at.fresh_is at.on (at.plays d begins) in
+    let ruled = ruled-of m rule turns (g.S.Stage.runs c.args.stage.now c.play_cycle.new.stage) (g.S.Stage.runs c.args.stage.now c.args.stage.now) last at.past
     (at.here ++ last ∷ []) c.requires.begun plays (c.in_default.ensures.stable refl at.past at.here at.last_is at.stable) in
     let given = subst (λ (n : Map). AreRuledStretches n rule turns at.past (at.here ++ last ∷ [])) (sym c.requires.same) ruled in (
       first,
@@ -195,22 +194,22 @@ returns-in-Some-clause-ok g c =
     let now = ends-now m rule turns ends (g.P.StretchPlayer.map first) c.requires.same inv.past inv.here c.loop-cycle.rows.last c.is_done.result
     false c.if-is_done.false (c.is_done.ensures first inv.past inv.here inv.stands) inv.ruled inv.last_is in
     let at = after m rule turns ends (g.P.StretchPlayer.stands first c.loop-cycle.player) (g.P.StretchPlayer.stands first c.turn-fresh.new.player)
-    (g.S.Stage.runs c.args.stage.now) (g.S.Stage.runs c.loop-cycle.stage) (g.S.Stage.runs c.turn-fresh.new.stage)
+    (g.S.Stage.runs c.args.stage.now c.args.stage.now) (g.S.Stage.runs c.args.stage.now c.loop-cycle.stage) (g.S.Stage.runs c.args.stage.now c.turn-fresh.new.stage)
     c.loop-cycle.rows.last c.turn-fresh.new.rows.last c.turn-fresh.result c.loop-cycle.cycle inv.past inv.here inv.asked inv.long inv.going
     inv.before now inv.plays inv.ruled.stable inv.last_is
     (λ e some. c.turn-fresh.ensures.turned e first inv.past inv.here inv.stands some c.requires.same inv.ruled inv.last_is)
-    (λ e d some. c.turn-fresh.ensures.resets e first d inv.past inv.here some)
+    (λ e d some. c.turn-fresh.ensures.resets e first c.args.stage.now d inv.past inv.here some)
     (λ e. c.turn-fresh.ensures.silent e)
     (λ e some few. c.turn-fresh.ensures.on e first inv.past inv.here inv.stands some few c.requires.same inv.ruled inv.last_is)
-    (λ e d s on. subst (λ stage. g.S.Stage.runs stage d s (rows_of inv.past) inv.here) (sym (c.turn-fresh.ensures.same e).0) on)
+    (λ e d s on. subst (λ stage. g.S.Stage.runs c.args.stage.now stage d s inv.past inv.here) (sym (c.turn-fresh.ensures.same e).0) on)
     (λ e. ap (λ (rows : TwoRows). rows.last) (c.turn-fresh.ensures.same e).1) in
-    let stops : (d : Design) → BeginsBehind d m (g.S.Stage.runs c.args.stage.now) []
+    let stops : (d : Design) → BeginsBehind d m (g.S.Stage.runs c.args.stage.now c.args.stage.now) []
     → StopsBefore d m (rule at.past) at.here c.in-Some.channel
-    × PlayStretches d m rule turns (g.S.Stage.runs c.play_cycle.new.stage) c.play_cycle.new.rows.last at.past at.here
-    = λ d begins. c.in-Some.ensures.stops c.in-Some.channel refl first d at.past at.here at.stands c.requires.same at.fresh_is
+    × PlayStretches d m rule turns (g.S.Stage.runs c.args.stage.now c.play_cycle.new.stage) c.play_cycle.new.rows.last at.past at.here
+    = λ d begins. c.in-Some.ensures.stops c.in-Some.channel refl first c.args.stage.now d at.past at.here at.stands c.requires.same at.fresh_is
     (at.plays d begins) in
     let some : at.here ≡ [] → ⊥ = λ none. ∥∥₁_elim c.requires.begun (λ (x y : ⊥). absurd x)
-    (λ (x : (d : Design) × BeginsBehind d m (g.S.Stage.runs c.args.stage.now) []).
+    (λ (x : (d : Design) × BeginsBehind d m (g.S.Stage.runs c.args.stage.now c.args.stage.now) []).
     some-before x.0 m (rule at.past) at.here c.in-Some.channel (stops x.0 x.1).0 none) in (
       at.past,
       at.here,
@@ -236,20 +235,20 @@ returns-in_err-keep-clause-fault g c =
     let now = ends-now m rule turns ends (g.P.StretchPlayer.map first) c.requires.same inv.past inv.here c.loop-cycle.rows.last c.is_done.result
     false c.if-is_done.false (c.is_done.ensures first inv.past inv.here inv.stands) inv.ruled inv.last_is in
     let at = after m rule turns ends (g.P.StretchPlayer.stands first c.loop-cycle.player) (g.P.StretchPlayer.stands first c.turn-fresh.new.player)
-    (g.S.Stage.runs c.args.stage.now) (g.S.Stage.runs c.loop-cycle.stage) (g.S.Stage.runs c.turn-fresh.new.stage)
+    (g.S.Stage.runs c.args.stage.now c.args.stage.now) (g.S.Stage.runs c.args.stage.now c.loop-cycle.stage) (g.S.Stage.runs c.args.stage.now c.turn-fresh.new.stage)
     c.loop-cycle.rows.last c.turn-fresh.new.rows.last c.turn-fresh.result c.loop-cycle.cycle inv.past inv.here inv.asked inv.long inv.going
     inv.before now inv.plays inv.ruled.stable inv.last_is
     (λ e some. c.turn-fresh.ensures.turned e first inv.past inv.here inv.stands some c.requires.same inv.ruled inv.last_is)
-    (λ e d some. c.turn-fresh.ensures.resets e first d inv.past inv.here some)
+    (λ e d some. c.turn-fresh.ensures.resets e first c.args.stage.now d inv.past inv.here some)
     (λ e. c.turn-fresh.ensures.silent e)
     (λ e some few. c.turn-fresh.ensures.on e first inv.past inv.here inv.stands some few c.requires.same inv.ruled inv.last_is)
-    (λ e d s on. subst (λ stage. g.S.Stage.runs stage d s (rows_of inv.past) inv.here) (sym (c.turn-fresh.ensures.same e).0) on)
+    (λ e d s on. subst (λ stage. g.S.Stage.runs c.args.stage.now stage d s inv.past inv.here) (sym (c.turn-fresh.ensures.same e).0) on)
     (λ e. ap (λ (rows : TwoRows). rows.last) (c.turn-fresh.ensures.same e).1) in
     let last = c.play_cycle.new.rows.last in
-    let plays : (d : Design) → BeginsBehind d m (g.S.Stage.runs c.args.stage.now) []
-    → PlayStretches d m rule turns (g.S.Stage.runs c.play_cycle.new.stage) last at.past (at.here ++ last ∷ [])
-    = λ d begins. c.in_default.ensures.on refl first d at.past at.here at.stands c.requires.same at.fresh_is at.on (at.plays d begins) in
-    let ruled = ruled-of m rule turns (g.S.Stage.runs c.play_cycle.new.stage) (g.S.Stage.runs c.args.stage.now) last at.past
+    let plays : (d : Design) → BeginsBehind d m (g.S.Stage.runs c.args.stage.now c.args.stage.now) []
+    → PlayStretches d m rule turns (g.S.Stage.runs c.args.stage.now c.play_cycle.new.stage) last at.past (at.here ++ last ∷ [])
+    = λ d begins. c.in_default.ensures.on refl first c.args.stage.now d at.past at.here at.stands c.requires.same at.fresh_is at.on (at.plays d begins) in
+    let ruled = ruled-of m rule turns (g.S.Stage.runs c.args.stage.now c.play_cycle.new.stage) (g.S.Stage.runs c.args.stage.now c.args.stage.now) last at.past
     (at.here ++ last ∷ []) c.requires.begun plays (c.in_default.ensures.stable refl at.past at.here at.last_is at.stable) in
     let given = subst (λ (n : Map). AreRuledStretches n rule turns at.past (at.here ++ last ∷ [])) (sym c.requires.same) ruled in
     fault-as c.from_residual.result c.in_err-keep.field-0.0

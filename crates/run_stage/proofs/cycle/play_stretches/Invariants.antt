@@ -17,8 +17,8 @@ invariant-loop-cycle g l = record {
   stands : g.P.StretchPlayer.stands l.fn.player l.player past here;
   going : Going (g.P.StretchPlayer.ends l.fn.player) past here;
   before : GoingBefore (g.P.StretchPlayer.ends l.fn.player) past;
-  plays : (d : Design) → BeginsBehind d l.map (g.S.Stage.runs l.fn.stage) []
-      → PlayStretches d l.map (g.P.StretchPlayer.rule l.fn.player) (g.P.StretchPlayer.turns l.fn.player) (g.S.Stage.runs l.stage) l.rows.last past here;
+  plays : (d : Design) → BeginsBehind d l.map (g.S.Stage.runs l.fn.stage l.fn.stage) []
+      → PlayStretches d l.map (g.P.StretchPlayer.rule l.fn.player) (g.P.StretchPlayer.turns l.fn.player) (g.S.Stage.runs l.fn.stage l.stage) l.rows.last past here;
   ruled : AreRuledStretches l.map (g.P.StretchPlayer.rule l.fn.player) (g.P.StretchPlayer.turns l.fn.player) past here;
   last_is : IsLast (row_before here (length here)) l.rows.last;
   over : AreOver l.map.channels l.rows;

@@ -14,7 +14,7 @@ returns-clause-ok g c =
       has-come ends c.args.cycles ok.0 ok.1 ok.2.0 ok.3,
       came ends c.args.cycles ok.0 ok.1 ending ok.2.0 ok.4,
       (λ d begins. (
-        plays-on d m rule (g.S.Stage.runs c.play_stretches.new.stage) c.play_stretches.new.rows.last ok.0 ok.1 ok.2.0 (ok.5 d begins).0,
+        plays-on d m rule (g.S.Stage.runs c.args.stage.now c.play_stretches.new.stage) c.play_stretches.new.rows.last ok.0 ok.1 ok.2.0 (ok.5 d begins).0,
         stops-on d m rule ok.0 ok.1 ending (ok.5 d begins).1,
       )),
     )) c.play_stretches.ensures.ok
@@ -29,7 +29,7 @@ returns-clause-fault g c =
       broke.1,
       broke.2.2,
       has-come ends c.args.cycles broke.0 broke.1 broke.2.0 broke.3,
-      (λ d begins. plays-on d m rule (g.S.Stage.runs c.play_stretches.new.stage) c.play_stretches.new.rows.last broke.0 broke.1 broke.2.0
+      (λ d begins. plays-on d m rule (g.S.Stage.runs c.args.stage.now c.play_stretches.new.stage) c.play_stretches.new.rows.last broke.0 broke.1 broke.2.0
           (broke.4 d begins)),
     )) c.play_stretches.ensures.fault
 

@@ -1,0 +1,4 @@
+pub mod PortNets
+pub mod Unserved
+pub mod Served
+pub mod QuietServed
