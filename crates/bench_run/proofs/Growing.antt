@@ -36,7 +36,7 @@ use Rattle.run_stage.specs.declared.ending.Ending.TheVariants.{Whole, Done, Unst
 use Rattle.run_stage.specs.declared.given.Gated.{Gated}
 use Rattle.run_stage.specs.Given.{FitsGates, IsGatedRow}
 use Rattle.run_stage.specs.Stretching.{all_rows, is_fresh_behind, AllAreStable, ArePlayed, AreRuledStretches, CameBehind, IsAsked, StopIn}
-use Rattle.run_stage.proofs.Stretching.{all-push, all-same, unturned-nil, unturned-push}
+use Rattle.run_stage.proofs.Stretching.{all-push, all-same, unturned-nil, unturned-push, all-more, count-all}
 use Rattle.run_stage.proofs.Turning.{last-of, stable-nil}
 use Rattle.bench_run.specs.Playing.{HasBegun}
 use Rattle.bench_run.specs.Plain.{spot_of, AreRunAllUp, GoesOn, IsBehind, IsPlainRun, StandsBehind, StandsWithin}
@@ -101,8 +101,6 @@ module _ (m : Map) (offer : List Row → ℕ → Offer) (resets : List ℕ) (pas
   ends-last = ∥∥₁_elim are.played (hlevel props) (λ (x : Played). (last-of x.0 m (rule m offer past) here row x.1.last).marked.ends)
 
 -- one row more
-pub more : (past : List (List Row)) (here : List Row) (row : Row) → all_rows past here ++ row ∷ [] ≡ all_rows past (here ++ row ∷ [])
-more past here row = append_assoc (rows_of past) here (row ∷ [])
 
 pub longer : (rows : List Row) (row : Row) (n : ℕ) → length rows ≡ n → n + 1 ≡ length (rows ++ row ∷ [])
 longer rows row n e = let l = length_push rows row in omega (arith, l, e)
@@ -119,11 +117,6 @@ said-due times given came count past here same e f =
     ∙ ap (λ ts. is_due ts came count) (sym same)
 
 -- the rows of all stretches
-joined : (past : List (List Row)) (here : List Row) → rows_of (and_stretch past here) ≡ all_rows past here
-joined past here = sym (append-nil (rows_of (and_stretch past here))) ∙ all-same past here
-
-counted : (past : List (List Row)) (here : List Row) → row_count (and_stretch past here) ≡ length (all_rows past here)
-counted past here = sym (length-flat_map (λ (rows : List Row). rows) (and_stretch past here)) ∙ ap length (joined past here)
 
 -- ---- its end
 module _ (d : Design) (m : Map) (offer : List Row → ℕ → Offer) (resets : List ℕ) (past : List (List Row)) (here : List Row)
@@ -149,7 +142,7 @@ module _ (d : Design) (m : Map) (offer : List Row → ℕ → Offer) (resets : L
     stands = subst stands_for (sym (joined past here)) stands;
     played = are-run;
     stable = all-push (AreStable m.channels) past here stable.before stable.last;
-    few = (let c = counted past here in omega (arith, c, few));
+    few = (let c = count-all past here in omega (arith, c, few));
   }
 
   plain : (n : ℕ) (ending : Ending) → AllAreStable m.channels past here → CameBehind (λ _ _ over. over ≡ false) n past here ending

@@ -14,6 +14,7 @@ pub use laws::{one_plain_run, plain_run_keeps_contents};
 pub use lent::Lent;
 pub use plain::{PlainRun, Spot, run_plain, spot_of};
 pub use player::{copied_row, given_now};
+pub use run_laws;
 pub use run_stage;
 pub use run_stage::chan_monitor;
 pub use run_stage::chan_monitor::{chan_map, vidi_bits};

@@ -9,6 +9,7 @@ use Rattle.run_stage.specs.run_model.Stretches.{AreStretches, and_stretch, row_c
 use Rattle.run_stage.specs.Stretching.{IsAsked}
 use Rattle.run_stage.proofs.run_model_lemmas.Unstable.{row-at}
 use Rattle.run_laws.proofs.Chaining.{IsFront, count-cons, count-one}
+use Rattle.run_stage.proofs.Stretching.{lone-row}
 
 -- ---- each but the first has a row
 
@@ -57,11 +58,6 @@ one-longer here t e n =
       sym (take_all (suc (length here)) t (omega (arith, n))) ∙ take-suc_get t (length here) r.0 r.1 ∙ ap (λ rs. rs ++ r.0 ∷ []) (sym e),
     )
 
-one-row : (u : List Row) → length u ≡ 1 → (row : Row) × (u ≡ row ∷ [])
-one-row [] n = absurd (omega (arith, n))
-one-row (r ∷ []) n = (r, refl)
-one-row (r ∷ q ∷ qs) n = absurd (omega (arith, n))
-
 pub extends : (past : List (List Row)) (here : List Row) (ss : List (List Row)) → IsFront (and_stretch past here) ss → AreSome ss
     → row_count ss ≡ row_count (and_stretch past here) + 1 → Extends past here ss
 extends [] here [] f some n = absurd f
@@ -76,7 +72,7 @@ extends [] here (t ∷ u ∷ []) f some n =
     let r = count-one u in
     let l = All-head Some-row u [] some in
     let m = f.0 in
-    let w = one-row u (omega (arith, n, p, q, r, l, m)) in
+    let w = lone-row u (omega (arith, n, p, q, r, l, m)) in
     let same : here ≡ t = f.1 ∙ take_all (length here) t (omega (arith, n, p, q, r, l)) in
     record { row = w.0; how = inr (ap (λ a. a ∷ u ∷ []) (sym same) ∙ ap (λ a. here ∷ a ∷ []) w.1) }
 extends [] here (t ∷ u ∷ v ∷ vs) f some n =

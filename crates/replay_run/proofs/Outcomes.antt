@@ -27,7 +27,7 @@ use Rattle.run_stage.proofs.run_model_lemmas.Deciding.{Decides, ended-or-not}
 use Rattle.run_stage.proofs.run_model_lemmas.PlayedLaws.{played-front}
 use Rattle.run_stage.proofs.run_model_lemmas.ReplayLaws.{one-epoch_replay}
 use Rattle.run_stage.proofs.run_model_lemmas.Unstable.{lowest}
-use Rattle.run_stage.proofs.Stretching.{Going, GoingBefore, going-push, going-turned}
+use Rattle.run_stage.proofs.Stretching.{Going, GoingBefore, going-push, going-turned, count-all}
 use Rattle.run_stage.proofs.Turning.{stable-push, unstable-now}
 use Rattle.run_laws.proofs.Chaining.{IsFront, count-cons, count-one, is-front, only, same-of}
 use Rattle.run_laws.proofs.Ending.{Ends, one-way, shorter}
@@ -42,13 +42,6 @@ use Rattle.replay_run.proofs.Epochs.{epoch-all, epochs-long}
 use Rattle.replay_run.proofs.Fronts.{asked, extends, fewer-rows, some-of, EndsBefore, EndsHere, Extends}
 
 -- ---- counts
-count-all : (past : List (List Row)) (here : List Row) → row_count (and_stretch past here) ≡ length (all_rows past here)
-count-all past here =
-    let a = sym (length-flat_map (λ (rows : List Row). rows) (and_stretch past here)) in
-    a ∙ ap length (rows-and past here)
-  where
-    rows-and : (past : List (List Row)) (here : List Row) → rows_of (and_stretch past here) ≡ rows_of past ++ here
-    rows-and past here = sym (flat_map_more (λ (rows : List Row). rows) [] past here)
 
 -- ---- whether a trace has ended
 ended-in : (n : ℕ) (packets : List Packet) (past : List (List Row)) (here : List Row) → Decides (HasEndedIn n packets past here)

@@ -291,9 +291,6 @@ pub room-left : (most : ℕ) (past : List (List Row)) (here : List Row) (row : R
     → most - length (all_rows past here) ≡ (most - length (all_rows past (here ++ row ∷ []))) + 1
 room-left most past here row l = let e = all-longer past here row in omega (arith, l, e)
 
-pub more-rows : (past : List (List Row)) (here : List Row) (row : Row) → all_rows past here ++ row ∷ [] ≡ all_rows past (here ++ row ∷ [])
-more-rows past here row = append_assoc (rows_of past) here (row ∷ [])
-
 -- the mask of inward channels, one channel longer
 pub inward-more : (channels : List Channel) (c mask new : ℕ) (y : Channel) (r : Bool) → mask < 2 ^ c → c < length channels → y ≡ get_or channels c y
     → new ≡ cond r 1 0 * 2 ^ c + mask → ((r ≡ true) ↔ (y.dir ≡ Inward))

@@ -33,7 +33,7 @@ use Rattle.trace_code.proofs.RowsBytes.{rows-few}
 use Rattle.net_design.specs.declared.design.Design.{Design}
 use Rattle.run_laws.specs.StretchLaws.{IsResetFree}
 use Rattle.run_laws.proofs.Chaining.{each-follows}
-use Rattle.run_laws.proofs.Ending.{shorter}
+use Rattle.run_laws.proofs.Ending.{shorter, take-over, stable-front, some-before, all-stable}
 use Rattle.run_laws.proofs.StretchLaws.{no-circle_in_stretches, order-in_stretches, replay-stretches_keep_contents}
 use Rattle.run_stage.specs.chan_map.declared.pins.Map.{Map}
 use Rattle.run_stage.specs.run_model.declared.held.Await.{Await}
@@ -55,6 +55,7 @@ use Rattle.replay_run.specs.Epochs.{epochs}
 use Rattle.replay_run.specs.Replaying.{AreInOrderOf, EndsAs, GoesInNoCircle, IsUnheld, held_behind, waits_behind}
 use Rattle.replay_run.proofs.Epochs.{epoch-all, epoch-plain, epochs-get, epochs-long}
 use Rattle.replay_run.proofs.Renumbered.{held-in, held-numbered, numbered, waits-in}
+use Rattle.run_model.proofs.PinLemmas.{all-at}
 
 -- ---- epochs
 epochs-many : (packets : List Packet) → length (epochs packets) ≡ suc (resets packets)
@@ -71,23 +72,6 @@ epoch-is k packets there at =
     same_Some there (epoch k packets) (sym at ∙ epochs-at k packets (omega (arith, many, within)))
 
 -- ---- the rows
-all-at : {X : Type 0} (P : X → Type 0) (xs : List X) (k : ℕ) (x : X) → All P xs → slice_get xs k ≡ Some x → P x
-all-at P xs k x all at =
-    let within = slice_get_within xs k x at in
-    subst P (same_Some (get_or xs k x) x (sym (slice_get-get_or xs k x within) ∙ at)) (all k x within)
-
-some-here : (channels : List Channel) (here : List Row) (next : Row) (c : ℕ) → IsUnstableAt channels (here ++ next ∷ []) (length here) c
-    → 0 < length here
-some-here channels [] next c u = absurd (none u.before u.before_is)
-  where
-    none : (r : Row) → None ≡ Some r → ⊥
-    none r e = cc
-some-here channels (x ∷ here) next c u = omega arith
-
-all-stable : (channels : List Channel) (past : List (List Row)) (here : List Row) → All (AreStable channels) past → AreStable channels here
-    → All (AreStable channels) (and_stretch past here)
-all-stable channels past here all last =
-    All-append (AreStable channels) past (here ∷ []) all (All-cons (AreStable channels) here [] last (All-nil (AreStable channels)))
 
 module _ (d : Design) (m : Map) (packets : List Packet) (n : ℕ) (past : List (List Row)) (here : List Row) where
   epoch-front : (all : ℕ) (left : List (List Packet)) (rows : List Row) (k : ℕ) → IsEpochReplay d m all left rows
@@ -112,7 +96,7 @@ module _ (d : Design) (m : Map) (packets : List Packet) (n : ℕ) (past : List (
   ends-played (Unstable channel cycle) (e, same) = record {
     played = shorter (IsEpochReplay d m (length (epochs packets))) (TurnsEpoch m.channels) (λ left rows. drop 1 left)
         (epoch-front (length (epochs packets))) (epochs packets) past here e.stops.next e.stops.played
-        (some-here m.channels here e.stops.next channel e.stops.unstable);
+        (some-before m.channels here e.stops.next channel e.stops.unstable);
     stable = all-stable m.channels past here e.stops.before e.stops.stable;
     within = (let l = e.within in omega (arith, l));
   }
@@ -315,13 +299,6 @@ marked-front later k rows some marked = record {
   some = λ is. (let all = marked.some is in let long = length-take k rows in omega (arith, some, all, long));
 }
 
-take-over : (k : ℕ) (xs ys : List Row) → length xs ≤ k → take k (xs ++ ys) ≡ xs ++ take (k - length xs) ys
-take-over k [] ys l = ap (λ n. take n ys) (let e : k ≡ k - 0 = omega arith in e)
-take-over zero (x ∷ xs) ys l = absurd (omega (arith, l))
-take-over (suc k) (x ∷ xs) ys l =
-    let e : k - length xs ≡ suc k - length (x ∷ xs) = omega arith in
-    ap (λ rs. x ∷ rs) (take-over k xs ys (omega (arith, l)) ∙ ap (λ n. xs ++ take n ys) e)
-
 -- rows that are a front of one of the stretches
 record IsPart (ss : List (List Row)) (rows : List Row) : Type 0 where
   number : ℕ
@@ -361,11 +338,6 @@ part [] marked none k l = absurd (omega (arith, none))
 part (s ∷ ss) marked there zero l = record { number = 0; many = 0; whole = s; at = refl; front = stretch-fold [] }
 part (s ∷ ss) marked there (suc k) l = subst (IsPart (s ∷ ss)) (sym (stretch-fold (take (suc k) (rows_of (s ∷ ss)))))
     (part-since false (s ∷ ss) [] marked (λ h. refl) (suc k) (omega arith) l)
-
-stable-front : (channels : List Channel) (rows : List Row) (k : ℕ) → AreStable channels rows → AreStable channels (take k rows)
-stable-front channels rows k stable t before now was is =
-    let l = within rows k t now is in
-    stable t before now (sym (row-before_take rows k t (omega (arith, l))) ∙ was) (sym (slice_get-take k rows t l) ∙ is)
 
 -- in each front of a stretch no valid is taken back
 keeps-part : (d : Design) (m : Map) (all : ℕ) (left : List (List Packet)) (rows : List Row) (k : ℕ) → IsEpochReplay d m all left rows

@@ -14,7 +14,7 @@ use Rattle.trace_code.specs.trace_model.Recording.{after_gap, end_after, end_of,
 use Rattle.trace_code.specs.trace_model.Recording.{reset_packet, trace_of}
 use Rattle.trace_code.specs.Encoding.{encode, end_mark, header_bytes, packet_bytes, row_bytes, rows_bytes}
 use Rattle.trace_code.proofs.trace_model_lemmas.TraceLaws.{packets-push}
-use Rattle.trace_code.proofs.RowsBytes.{encode-rows}
+use Rattle.trace_code.proofs.RowsBytes.{encode-rows, end-next, packets-next, some-bytes, some-many}
 use Rattle.replay_run.specs.Output.{fresh_bytes, IsWritten, IsWrittenBefore}
 use Rattle.replay_run.specs.declared.output.Output.{Output}
 
@@ -53,25 +53,8 @@ row-no_longer channels row len after e l = one (row.starts == 0 && row.ends == 0
     one false e = absurd (omega (arith, e, l))
 
 -- where the packets end behind one row more
-end-next : (t e : ℕ) (rows : List Row) (row : Row) → end_of t e (rows ++ row ∷ []) ≡ end_after (t + length rows) (end_of t e rows) row
-end-next t e [] row = ap (λ n. end_after n e row) (let same : t ≡ t + 0 = omega arith in same)
-end-next t e (x ∷ rows) row =
-    let on : t + 1 + length rows ≡ t + length (x ∷ rows) = omega arith in
-    end-next (t + 1) (end_after t e x) rows row ∙ ap (λ n. end_after n (end_of (t + 1) (end_after t e x) rows) row) on
 
 -- the packets of one row more, the reset before it where it is fresh
-packets-next : (channels : List Channel) (rows : List Row) (row : Row) → packets_from channels 0 0 (rows ++ row ∷ [])
-    ≡ packets_from channels 0 0 rows ++ packets_at channels (length rows) (end_of 0 0 rows) row
-packets-next channels rows row = packets-push channels 0 0 rows row
-    ∙ ap (λ t. packets_from channels 0 0 rows ++ packets_at channels t (end_of 0 0 rows) row) (zero-add (length rows))
-
-some-bytes : (channels : List Channel) (b : Bool) (p : Packet) → flat_map (packet_bytes channels) (cond b (p ∷ []) []) ≡ cond b (packet_bytes channels p) []
-some-bytes channels true p = append-nil (packet_bytes channels p)
-some-bytes channels false p = refl
-
-some-many : (b : Bool) (p : Packet) → length (cond b (p ∷ []) []) ≡ cond b 1 0
-some-many true p = refl
-some-many false p = refl
 
 -- their bytes and their number, where it follows packets that end at `e`
 at-bytes : (channels : List Channel) (t e : ℕ) (row : Row) → flat_map (packet_bytes channels) (packets_at channels t e row)

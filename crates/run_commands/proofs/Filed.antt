@@ -25,9 +25,9 @@ use Rattle.vidi_recorder.specs.declared.error.RecordError.TheVariants as errors
 use Rattle.vidi_recorder.specs.Course.{Course, IsRunOf}
 use Rattle.vidi_recorder.specs.Recording.{EndsWith, FailsWith, IsFrontOfTheRun}
 use Rattle.vidi_recorder.specs.Standing.{Reached}
-use Rattle.vidi_recorder.proofs.Runs.{joined}
 use Rattle.run_commands.specs.Recorded.{FileEnds, FileFails}
 use Rattle.run_commands.specs.Records.{IsCutShort, IsStarted}
+use Rattle.bench_run.proofs.run_stage_lemmas.Stretching.{rows-push}
 
 -- the frame of a sink over the file of this name
 abbrev pub frame : List ℕ → Option Files → (List ℕ → ℕ) → ℕ → Frame
@@ -115,7 +115,7 @@ file-ends w runs stands started files now name reads before starts first (outcom
 reached-run : (w : Course) (runs : Design → Values → Option Row → Type 0) (rows : List Row) → Reached w runs rows → IsRunOf w rows
 reached-run w runs rows x = record {
   stretches = and_stretch x.past x.here;
-  rows_are = joined x.past x.here ∙ x.rows_are;
+  rows_are = rows-push x.past x.here ∙ x.rows_are;
   run = x.run;
 }
 

@@ -1,5 +1,5 @@
 -- A run in stretches ends in exactly one way.
-use Rattle.std.proofs.Common.{◌≡◌, ◌⊎◌, ℕ, suc, ◌+◌, ◌<◌, ◌≤◌, Bool, not, List, [], ◌∷◌, ◌++◌, Option, None, Some, All, length, take}
+use Rattle.std.proofs.Common.{◌≡◌, ◌⊎◌, ℕ, suc, ◌+◌, ◌<◌, ◌≤◌, Bool, not, List, [], ◌∷◌, ◌++◌, Option, None, Some, All, length, take, ◌-◌}
 use Rattle.std.proofs.Common.{inl, inr, ⊎_elim, refl, ap, sym, subst, ◌∙◌, arith}
 use Rattle.std.proofs.Math.Logic.{∥∥₁_map}
 use Rattle.std.proofs.lemmas.Bool.{cases_order}
@@ -30,9 +30,16 @@ use Rattle.run_model.proofs.RunLaws.{GatesAreFixed}
 use Rattle.run_model.proofs.Stops.{plan-fixes}
 use Rattle.run_model.proofs.Unstable.{Stop, lowest-one, stable-or-stops}
 use Rattle.run_model.proofs.trace_model_lemmas.CountingLemmas.{slice_get-take}
+use Rattle.std.proofs.Math.Seq.{take-append-add}
+
+-- ---- fronts
+pub take-over : (k : ℕ) (xs ys : List Row) → length xs ≤ k → take k (xs ++ ys) ≡ xs ++ take (k - length xs) ys
+take-over k xs ys l =
+    let e : k ≡ length xs + (k - length xs) = omega (arith, l) in
+    ap (λ n. take n (xs ++ ys)) e ∙ take-append-add xs ys (k - length xs)
 
 -- ---- rows that are stable
-stable-front : (channels : List Channel) (rows : List Row) (k : ℕ) → AreStable channels rows → AreStable channels (take k rows)
+pub stable-front : (channels : List Channel) (rows : List Row) (k : ℕ) → AreStable channels rows → AreStable channels (take k rows)
 stable-front channels rows k stable t before now was is =
     let l = within rows k t now is in
     stable t before now (sym (row-before_take rows k t (omega (arith, l))) ∙ was) (sym (slice_get-take k rows t l) ∙ is)
@@ -46,7 +53,7 @@ one-channel channels rows t c k u w = lowest-one channels w.before w.now c k
     (subst (λ (r : Row). IsLowestUnstable channels u.before r (Some c)) (same_Some u.now w.now (sym u.now_is ∙ w.now_is)) u.lowest)) w.lowest
 
 -- a first row isn't unstable
-some-before : (channels : List Channel) (here : List Row) (next : Row) (c : ℕ) → IsUnstableAt channels (here ++ next ∷ []) (length here) c
+pub some-before : (channels : List Channel) (here : List Row) (next : Row) (c : ℕ) → IsUnstableAt channels (here ++ next ∷ []) (length here) c
     → 0 < length here
 some-before channels [] next c u = absurd (none u.before u.before_is)
   where
@@ -54,7 +61,7 @@ some-before channels [] next c u = absurd (none u.before u.before_is)
     none r e = cc
 some-before channels (x ∷ here) next c u = omega arith
 
-all-stable : (channels : List Channel) (past : List (List Row)) (here : List Row) → All (AreStable channels) past → AreStable channels here
+pub all-stable : (channels : List Channel) (past : List (List Row)) (here : List Row) → All (AreStable channels) past → AreStable channels here
     → All (AreStable channels) (and_stretch past here)
 all-stable channels past here all last =
     All-append (AreStable channels) past (here ∷ []) all (All-cons (AreStable channels) here [] last (All-nil (AreStable channels)))
@@ -63,7 +70,7 @@ all-stable channels past here all last =
 rows-and : (past : List (List Row)) (here : List Row) → rows_of past ++ here ≡ rows_of (and_stretch past here)
 rows-and past here = flat_map_more (λ (rows : List Row). rows) [] past here
 
-count-rows : (ss : List (List Row)) → row_count ss ≡ length (rows_of ss)
+pub count-rows : (ss : List (List Row)) → row_count ss ≡ length (rows_of ss)
 count-rows ss = sym (length-flat_map (λ (rows : List Row). rows) ss)
 
 count-and : (past : List (List Row)) (here : List Row) → row_count (and_stretch past here) ≡ length (rows_of past ++ here)

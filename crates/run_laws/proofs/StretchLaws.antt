@@ -33,7 +33,7 @@ use Rattle.run_model.proofs.RunLaws.{GatesAreFixed, one-of_length, stretch-keeps
 use Rattle.run_model.proofs.Stops.{plan-fixes}
 
 -- ---- runs
-all-over : (channels : List Channel) (rows : List Row) → AreRows channels rows → All (IsOver channels) rows
+pub all-over : (channels : List Channel) (rows : List Row) → AreRows channels rows → All (IsOver channels) rows
 all-over channels [] are = All-nil (IsOver channels)
 all-over channels (row ∷ rows) are = All-from_get_or (IsOver channels) (row ∷ rows) row
     (λ i l. (are i _ (slice_get-get_or (row ∷ rows) i row l)).0)

@@ -21,6 +21,7 @@ use Rattle.run_stage.specs.Playing.{IsLast, IsShown}
 use Rattle.run_stage.specs.Stretching.{all_rows, is_fresh_behind, AllAreStable, ArePlayed, AreRuledStretches, BeginsBehind, GoesOn, GoesTo}
 use Rattle.run_stage.specs.Stretching.{IsAsked, PlayStretches}
 use Rattle.run_stage.proofs.Turning.{last-of, last-push, over_prop, stable-nil, stable-push, unstable-now}
+use Rattle.std.proofs.lemmas.List.Concat.{length-flat_map}
 
 -- ---- stretches
 pub unturned-push : (turns : List (List Row) → List Row → Type 0) (past : List (List Row)) (here : List Row) (row : Row)
@@ -62,13 +63,24 @@ module _ (d : Design) (m : Map) (rule : List (List Row) → List Row → Row →
 pub all-push : (P : List Row → Type 0) (past : List (List Row)) (here : List Row) → All P past → P here → All P (and_stretch past here)
 all-push P past here all h = All-append P past (here ∷ []) all (All-cons P here [] h (All-nil P))
 
-rows-push : (past : List (List Row)) (here : List Row) → rows_of (and_stretch past here) ≡ rows_of past ++ here
+pub rows-push : (past : List (List Row)) (here : List Row) → rows_of (and_stretch past here) ≡ rows_of past ++ here
 rows-push [] here = append-nil here
 rows-push (rows ∷ past) here = ap (λ rs. rows ++ rs) (rows-push past here) ∙ sym (append_assoc rows (rows_of past) here)
 
 -- all rows are the same, whether a reset comes or not
 pub all-same : (past : List (List Row)) (here : List Row) → all_rows (and_stretch past here) [] ≡ all_rows past here
 all-same past here = append-nil (rows_of (and_stretch past here)) ∙ rows-push past here
+
+pub all-more : (past : List (List Row)) (here : List Row) (row : Row) → all_rows past here ++ row ∷ [] ≡ all_rows past (here ++ row ∷ [])
+all-more past here row = append_assoc (rows_of past) here (row ∷ [])
+
+pub count-all : (past : List (List Row)) (here : List Row) → row_count (and_stretch past here) ≡ length (all_rows past here)
+count-all past here = sym (length-flat_map (λ (rows : List Row). rows) (and_stretch past here)) ∙ ap length (rows-push past here)
+
+pub lone-row : (rows : List Row) → length rows ≡ 1 → (row : Row) × (rows ≡ row ∷ [])
+lone-row [] l = absurd (omega (arith, l))
+lone-row (row ∷ []) l = (row, refl)
+lone-row (row ∷ other ∷ rows) l = absurd (omega (arith, l))
 
 pub all-longer : (past : List (List Row)) (here : List Row) (row : Row) → length (all_rows past (here ++ row ∷ [])) ≡ length (all_rows past here) + 1
 all-longer past here row = ap length (sym (append_assoc (rows_of past) here (row ∷ []))) ∙ length_push (all_rows past here) row

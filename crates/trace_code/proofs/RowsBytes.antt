@@ -28,7 +28,7 @@ end-most t e (row ∷ rows) l = let r = end-most (t + 1) (end_after t e row) row
 pub end-within : (rows : List Row) → end_of 0 0 rows ≤ length rows
 end-within rows = let l = end-most 0 0 rows (omega arith) in omega (arith, l)
 
-end-next : (t e : ℕ) (rows : List Row) (row : Row) → end_of t e (rows ++ row ∷ []) ≡ end_after (t + length rows) (end_of t e rows) row
+pub end-next : (t e : ℕ) (rows : List Row) (row : Row) → end_of t e (rows ++ row ∷ []) ≡ end_after (t + length rows) (end_of t e rows) row
 end-next t e [] row = ap (λ n. end_after n e row) (let same : t ≡ t + 0 = omega arith in same)
 end-next t e (x ∷ rows) row =
     let on : t + 1 + length rows ≡ t + length (x ∷ rows) = omega arith in
@@ -41,6 +41,21 @@ end-push rows row h =
     ∙ ap (λ b. cond (has_event row) (length rows + 1) (cond b (length rows) (end_of 0 0 rows))) h
 
 -- ---- a row more
+-- its packets, the reset before it where it is fresh
+pub packets-next : (channels : List Channel) (rows : List Row) (row : Row) → packets_from channels 0 0 (rows ++ row ∷ [])
+    ≡ packets_from channels 0 0 rows ++ packets_at channels (length rows) (end_of 0 0 rows) row
+packets-next channels rows row = packets-push channels 0 0 rows row
+    ∙ ap (λ t. packets_from channels 0 0 rows ++ packets_at channels t (end_of 0 0 rows) row) (zero-add (length rows))
+
+pub some-bytes : (channels : List Channel) (b : Bool) (p : Packet)
+    → flat_map (packet_bytes channels) (cond b (p ∷ []) []) ≡ cond b (packet_bytes channels p) []
+some-bytes channels true p = append-nil (packet_bytes channels p)
+some-bytes channels false p = refl
+
+pub some-many : (b : Bool) (p : Packet) → length (cond b (p ∷ []) []) ≡ cond b 1 0
+some-many true p = refl
+some-many false p = refl
+
 own-alone : (cs : List Channel) (t e : ℕ) (row : Row) → row.fresh ≡ false
     → packets_at cs t e row ≡ cond (has_event row) (after_gap (t - e) (packet_of cs row) ∷ []) []
 own-alone cs t e row h = ap
@@ -49,8 +64,7 @@ own-alone cs t e row h = ap
 packets-more : (cs : List Channel) (rows : List Row) (row : Row) → row.fresh ≡ false → packets_from cs 0 0 (rows ++ row ∷ [])
     ≡ packets_from cs 0 0 rows ++ cond (has_event row) (after_gap (length rows - end_of 0 0 rows) (packet_of cs row) ∷ []) []
 packets-more cs rows row h =
-    packets-push cs 0 0 rows row
-    ∙ ap (λ t. packets_from cs 0 0 rows ++ packets_at cs t (end_of 0 0 rows) row) (zero-add (length rows))
+    packets-next cs rows row
     ∙ ap (λ ps. packets_from cs 0 0 rows ++ ps) (own-alone cs (length rows) (end_of 0 0 rows) row h)
 
 pub rows-push : (cs : List Channel) (rows : List Row) (row : Row) → row.fresh ≡ false

@@ -1,11 +1,11 @@
 -- How the run of a wave ends.
 use Rattle.std.proofs.Common.{◌≡◌, ℕ, Bool, false, List, ◌∷◌, [], ◌++◌, length, refl, sym}
 use Rattle.net_design.specs.declared.design.Design.{Design}
-use Rattle.run_stage.specs.declared.ending.Ending.{Ending}
-use Rattle.run_stage.specs.declared.ending.Ending.TheVariants.{Whole, Done, Unstable}
-use Rattle.run_stage.specs.Stretching.{all_rows, AllAreStable, ArePlayed, CameBehind, IsAsked, StopIn}
-use Rattle.run_stage.proofs.Stretching.{unturned-push}
-use Rattle.run_laws.proofs.Behind.{stop-of}
+use Rattle.bench_run.specs.run_stage.declared.ending.Ending.{Ending}
+use Rattle.bench_run.specs.run_stage.declared.ending.Ending.TheVariants.{Whole, Done, Unstable}
+use Rattle.bench_run.specs.run_stage.Stretching.{all_rows, AllAreStable, ArePlayed, CameBehind, IsAsked, StopIn}
+use Rattle.bench_run.proofs.run_stage_lemmas.Stretching.{unturned-push}
+use Rattle.bench_run.proofs.run_laws_lemmas.Behind.{stop-of}
 use Rattle.bench_run.specs.chan_map.declared.pins.Map.{Map}
 use Rattle.bench_run.specs.env_script.Offer.{Offer}
 use Rattle.bench_run.specs.env_script.Offered.{offers_after}

@@ -3,7 +3,7 @@ use Rattle.std.proofs.Common.{◌≡◌, ℕ, suc, ◌+◌, ◌≤◌, ◌<◌, 
 use Rattle.std.proofs.Common.{ap, sym, subst, ◌∙◌, ⊎_elim, arith, length-append, le-ltb, lt-ltb}
 use Rattle.std.proofs.lemmas.Bool.{cond-true, cond-false}
 use Rattle.bench_run.specs.trace_model.declared.row.Row.{Row}
-use Rattle.run_stage.proofs.trace_model_lemmas.CountingLemmas.{slice_get-push}
+use Rattle.bench_run.proofs.run_stage_lemmas.trace_model_lemmas.CountingLemmas.{slice_get-push}
 use Rattle.net_design.specs.declared.design.Design.{Design}
 use Rattle.net_design.specs.declared.values.Values.{Values}
 use Rattle.bench_run.specs.chan_map.declared.pins.Map.{Map}

@@ -9,7 +9,7 @@ use Rattle.net_design.specs.Names.{list_at, paths, AreAfterParents}
 use Rattle.net_design.proofs.LawfulCode.{slice_get-at}
 use Rattle.net_sim.specs.Names.{dotted}
 use Rattle.net_sim.proofs.NameLaws.{top_path, path_text}
-use Rattle.run_stage.proofs.trace_model_lemmas.CountingLemmas.{take-suc_get}
+use Rattle.bench_run.proofs.run_stage_lemmas.trace_model_lemmas.CountingLemmas.{take-suc_get}
 use Rattle.wave_text.specs.declared.wave.WaveNet.{WaveNet}
 use Rattle.vcd_wave.specs.Nets.{list_of, wave_net, ArePathTexts}
 

@@ -7,9 +7,9 @@ use Rattle.std.proofs.lemmas.Bool.{eqb-true}
 use Rattle.std.proofs.lemmas.List.{length_push}
 use Rattle.net_design.specs.declared.design.Design.{Design}
 use Rattle.net_design.specs.declared.values.Values.{Values}
-use Rattle.run_stage.specs.chan_monitor.Shell.{IsRunning}
-use Rattle.run_stage.specs.Stretching.{all_rows}
-use Rattle.run_stage.proofs.Stretching.{all-longer, all-same}
+use Rattle.bench_run.specs.run_stage.chan_monitor.Shell.{IsRunning}
+use Rattle.bench_run.specs.run_stage.Stretching.{all_rows}
+use Rattle.bench_run.proofs.run_stage_lemmas.Stretching.{all-longer, all-same}
 use Rattle.bench_run.specs.chan_map.declared.pins.Map.{Map}
 use Rattle.bench_run.specs.run_model.Step.{IsFirst, IsStep}
 use Rattle.bench_run.specs.run_model.Stretches.{and_stretch}

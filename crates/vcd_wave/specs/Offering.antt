@@ -1,7 +1,7 @@
 -- Where the player of a wave stands between two cycles.
 use Rattle.std.specs.Prelude.{◌≡◌, ℕ, ◌≤◌, List, length}
 use Rattle.std.specs.Borrow.{GName}
-use Rattle.run_stage.specs.declared.given.Gated.{Gated}
+use Rattle.bench_run.specs.run_stage.declared.given.Gated.{Gated}
 use Rattle.bench_run.specs.chan_map.declared.pins.Map.{Map}
 use Rattle.bench_run.specs.env_script.Offer.{Offer}
 use Rattle.bench_run.specs.env_script.Offered.{offers_on}

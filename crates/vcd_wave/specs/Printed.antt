@@ -3,7 +3,7 @@ use Rattle.std.specs.Prelude.{◌≡◌, ℕ, ◌≤◌, List, ◌++◌, None, O
 use Rattle.std.specs.List.{flat_map}
 use Rattle.net_design.specs.declared.design.Design.{Design}
 use Rattle.net_design.specs.declared.values.Values.{Values}
-use Rattle.run_stage.specs.Stretching.{all_rows}
+use Rattle.bench_run.specs.run_stage.Stretching.{all_rows}
 use Rattle.bench_run.specs.chan_map.declared.pins.Map.{Map}
 use Rattle.bench_run.specs.trace_model.declared.packet.TheConstants.{MOST_CYCLES}
 use Rattle.bench_run.specs.trace_model.declared.row.Row.{Row}

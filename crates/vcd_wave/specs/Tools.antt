@@ -1,8 +1,8 @@
 -- How the rows of a wave are written.
 use Rattle.std.specs.Prelude.{◌≡◌, ℕ, ◌+◌, ◌==◌, if◌then◌else◌, List, [], ◌∷◌, ◌++◌, Option, None, Some, length}
-use Rattle.run_stage.specs.declared.ending.Ending.{Ending}
-use Rattle.run_stage.specs.declared.ending.Ending.TheVariants.{Whole, Done, Unstable}
-use Rattle.run_stage.specs.Playing.{AreOver}
+use Rattle.bench_run.specs.run_stage.declared.ending.Ending.{Ending}
+use Rattle.bench_run.specs.run_stage.declared.ending.Ending.TheVariants.{Whole, Done, Unstable}
+use Rattle.bench_run.specs.run_stage.Playing.{AreOver}
 use Rattle.bench_run.specs.env_script.Offer.{Offer}
 use Rattle.bench_run.specs.env_script.Offered.{offers_on}
 use Rattle.bench_run.specs.run_model.Played.{all_up}

@@ -33,10 +33,10 @@ fn mark_of(row: &Row) -> usize
 
 impl<E: Env> StretchPlayer<Gated> for WavePlayer<'_, '_, '_, '_, E> {
     ghost use Rattle.std.specs.Prelude.{false, not};
-    ghost use Rattle.run_stage.specs.run_model.Run.{AllUp, IsStretchRow};
-    ghost use Rattle.run_stage.specs.run_model.Stretches.{offers_behind, Turns};
-    ghost use Rattle.run_stage.specs.chan_monitor.vidi_bits.Findings.{is_nil};
-    ghost use Rattle.run_stage.specs.Stretching.{all_rows};
+    ghost use Rattle.bench_run.specs.run_stage.run_model.Run.{AllUp, IsStretchRow};
+    ghost use Rattle.bench_run.specs.run_stage.run_model.Stretches.{offers_behind, Turns};
+    ghost use Rattle.bench_run.specs.run_stage.chan_monitor.vidi_bits.Findings.{is_nil};
+    ghost use Rattle.bench_run.specs.run_stage.Stretching.{all_rows};
     ghost use Rattle.bench_run.specs.env_script.Offered.{offers_after};
     ghost use Rattle.bench_run.specs.env_script.Resets.{is_due_behind};
     ghost use Rattle.bench_run.specs.trace_model.declared.packet.TheConstants.{MOST_CYCLES};

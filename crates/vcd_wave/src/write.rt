@@ -4,9 +4,9 @@ ghost use Rattle.std.specs.Prelude.{◌≡◌, ◌≤◌, [], ℕ, Err, List, No
 ghost use Rattle.std.specs.Io.KnownBytes.{append_known};
 ghost use Rattle.net_design.specs.declared.design.Net.{Net as OneNet};
 ghost use Rattle.net_design.specs.declared.values.Values.{Values};
-ghost use Rattle.run_stage.specs.run_model.Building.{PortsAreNets};
-ghost use Rattle.run_stage.specs.run_model.MapOf.{IsMapOf};
-ghost use Rattle.run_stage.specs.Playing.{AreOver};
+ghost use Rattle.bench_run.specs.run_stage.run_model.Building.{PortsAreNets};
+ghost use Rattle.bench_run.specs.run_stage.run_model.MapOf.{IsMapOf};
+ghost use Rattle.bench_run.specs.run_stage.Playing.{AreOver};
 ghost use Rattle.bench_run.specs.env_script.Offered.{offers_on};
 ghost use Rattle.bench_run.specs.env_script.Resets.{AreTimes};
 ghost use Rattle.bench_run.specs.run_model.Played.{all_up};

@@ -25,6 +25,7 @@ use Rattle.room_ledger.specs.Reservation.{AreRaised}
 use Rattle.room_ledger.proofs.Existence.{has-gates}
 use Rattle.room_ledger.proofs.GateLaws.{one-set, some-row}
 use Rattle.vidi_recorder.specs.Course.{gates_behind, sizes_of}
+use Rattle.run_laws.proofs.StretchLaws.{all-over}
 
 -- ---- each row
 each-in : (P : Row → Type 0) (xs : List Row) → All P xs → (u : ℕ) (r : Row) → slice_get xs u ≡ Some r → P r
@@ -45,11 +46,6 @@ each-behind P (s ∷ past) here all f u r at =
     each-both P s (rows_of past ++ here) (each-in P s (All-head (All P) s past all))
     (each-behind P past here (All-tail (All P) s past all) f) u r
     (subst (λ (rs : List Row). slice_get rs u ≡ Some r) (append_assoc s (rows_of past) here) at)
-
-all-over : (channels : List Channel) (rows : List Row) → AreRows channels rows → All (IsOver channels) rows
-all-over channels [] are = All-nil (IsOver channels)
-all-over channels (row ∷ rows) are = All-from_get_or (IsOver channels) (row ∷ rows) row
-    (λ i l. (are i _ (slice_get-get_or (row ∷ rows) i row l)).0)
 
 -- the rows of stretches, each of which is over the channels
 pub each-over : (channels : List Channel) (ss : List (List Row))

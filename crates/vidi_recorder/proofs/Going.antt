@@ -19,7 +19,7 @@ use Rattle.trace_code.proofs.trace_model_lemmas.CountingLemmas.{slice_get-last, 
 use Rattle.trace_code.proofs.trace_model_lemmas.TraceLaws.{packets-push}
 use Rattle.trace_code.specs.Encoding.{encode, end_mark, header_bytes, packet_bytes, row_bytes, rows_bytes}
 use Rattle.trace_code.proofs.RowBytes.{row-length, no-row-packet}
-use Rattle.trace_code.proofs.RowsBytes.{encode-rows}
+use Rattle.trace_code.proofs.RowsBytes.{encode-rows, end-next, packets-next, some-bytes, some-many}
 use Rattle.room_ledger.specs.Gates.{Plan, drained, fresh_at, is_fresh, left, put_len, used_at}
 use Rattle.room_ledger.specs.Laws.{MayFollow, StandsAfter, after_drain, before_next}
 use Rattle.room_ledger.specs.Ledger.{Ledger, Emitted, Regranted, empty, may_reset}
@@ -132,17 +132,6 @@ reset-alone : (channels : List Channel) (gap : ℕ) (b : Bool)
 reset-alone channels gap true = append-nil (packet_bytes channels (reset_packet gap))
 reset-alone channels gap false = refl
 
-own-alone : (channels : List Channel) (p : Packet) (b : Bool)
-    → flat_map (packet_bytes channels) (cond b (p ∷ []) []) ≡ cond b (packet_bytes channels p) []
-own-alone channels p true = append-nil (packet_bytes channels p)
-own-alone channels p false = refl
-
-packets-more : (channels : List Channel) (rows : List Row) (row : Row) → packets_from channels 0 0 (rows ++ row ∷ [])
-    ≡ packets_from channels 0 0 rows ++ packets_at channels (length rows) (end_of 0 0 rows) row
-packets-more channels rows row =
-    packets-push channels 0 0 rows row
-    ∙ ap (λ t. packets_from channels 0 0 rows ++ packets_at channels t (end_of 0 0 rows) row) (zero-add (length rows))
-
 pub rows-more : (channels : List Channel) (rows : List Row) (row : Row)
     → rows_bytes channels (rows ++ row ∷ []) ≡ bytes_so_far channels rows row.fresh ++ bytes_behind channels rows row
 rows-more channels rows row =
@@ -151,11 +140,11 @@ rows-more channels rows row =
     let first = cond row.fresh (reset_packet (t - before) ∷ []) [] in
     let own = after_gap (t - own_before t before row) (packet_of channels row) in
     let second = cond (has_event row) (own ∷ []) [] in
-    ap (flat_map (packet_bytes channels)) (packets-more channels rows row)
+    ap (flat_map (packet_bytes channels)) (packets-next channels rows row)
     ∙ flat_map-append (packet_bytes channels) (packets_from channels 0 0 rows) (first ++ second)
     ∙ ap (λ bs. rows_bytes channels rows ++ bs) (flat_map-append (packet_bytes channels) first second)
     ∙ ap (λ bs. rows_bytes channels rows ++ (bs ++ flat_map (packet_bytes channels) second)) (reset-alone channels (t - before) row.fresh)
-    ∙ ap (λ bs. rows_bytes channels rows ++ (reset_bytes row.fresh (t - before) ++ bs)) (own-alone channels own (has_event row))
+    ∙ ap (λ bs. rows_bytes channels rows ++ (reset_bytes row.fresh (t - before) ++ bs)) (some-bytes channels (has_event row) own)
     ∙ sym (append_assoc (rows_bytes channels rows) (reset_bytes row.fresh (t - before)) (bytes_behind channels rows row))
 
 pub count-more : (channels : List Channel) (rows : List Row) (row : Row) → length (packets_from channels 0 0 (rows ++ row ∷ []))
@@ -166,22 +155,12 @@ count-more channels rows row =
     let first = cond row.fresh (reset_packet (t - before) ∷ []) [] in
     let own = after_gap (t - own_before t before row) (packet_of channels row) in
     let second = cond (has_event row) (own ∷ []) [] in
-    let a = ap length (packets-more channels rows row) in
+    let a = ap length (packets-next channels rows row) in
     let b = length-append (packets_from channels 0 0 rows) (first ++ second) in
     let c = length-append first second in
-    let d = one row.fresh (reset_packet (t - before)) in
-    let e = one (has_event row) own in
+    let d = some-many row.fresh (reset_packet (t - before)) in
+    let e = some-many (has_event row) own in
     omega (arith, a, b, c, d, e)
-  where
-    one : (b : Bool) (p : Packet) → length (cond b (p ∷ []) []) ≡ cond b 1 0
-    one true p = refl
-    one false p = refl
-
-end-next : (t e : ℕ) (rows : List Row) (row : Row) → end_of t e (rows ++ row ∷ []) ≡ end_after (t + length rows) (end_of t e rows) row
-end-next t e [] row = ap (λ n. end_after n e row) (let same : t ≡ t + 0 = omega arith in same)
-end-next t e (x ∷ rows) row =
-    let on : t + 1 + length rows ≡ t + length (x ∷ rows) = omega arith in
-    end-next (t + 1) (end_after t e x) rows row ∙ ap (λ n. end_after n (end_of (t + 1) (end_after t e x) rows) row) on
 
 pub end-more : (rows : List Row) (row : Row)
     → end_of 0 0 (rows ++ row ∷ []) ≡ cond (has_event row) (length rows + 1) (end_so_far rows row.fresh)

@@ -62,8 +62,6 @@ due-alone [] k n p = refl
 due-alone (t ∷ times) k n p = refl
 
 -- the rows with one more
-pub more : (past : List (List Row)) (here : List Row) (row : Row) → all_rows past here ++ row ∷ [] ≡ all_rows past (here ++ row ∷ [])
-more past here row = append_assoc (rows_of past) here (row ∷ [])
 
 -- where its packet ends, and how many there are
 pub end-after : (event : Bool) (t old new : ℕ) → new ≡ cond event (t + 1) old → old ≤ t → new ≤ t + 1

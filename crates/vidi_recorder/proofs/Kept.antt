@@ -35,7 +35,7 @@ use Rattle.env_script.proofs.run_model_lemmas.Contents.{has-all, same-masks_belo
 use Rattle.env_script.proofs.run_model_lemmas.PlayedLaws.{row-before_take, within}
 use Rattle.env_script.proofs.run_model_lemmas.RunLaws.{run-keeps, none-behind, kept}
 use Rattle.env_script.proofs.run_model_lemmas.Stays.{keeps-in-flight}
-use Rattle.run_laws.proofs.Ending.{the-run_in}
+use Rattle.run_laws.proofs.Ending.{the-run_in, take-over, stable-front}
 use Rattle.run_laws.proofs.StretchLaws.{run-front}
 use Rattle.room_ledger.specs.Gates.{fresh_at, permit_at, used_at, AreGates}
 use Rattle.room_ledger.specs.Laws.{EverythingDrains}
@@ -50,15 +50,10 @@ use Rattle.vidi_recorder.specs.Course.{Course, course, gates_behind, permit_befo
 use Rattle.vidi_recorder.specs.Laws.{TheRunIsKept, NoHiddenGate, DrainedRunIsPlain}
 use Rattle.vidi_recorder.proofs.Gated.{gates-stay}
 use Rattle.vidi_recorder.proofs.Going.{fresh-front, fresh-last}
-use Rattle.vidi_recorder.proofs.Runs.{joined, run-long}
+use Rattle.vidi_recorder.proofs.Runs.{run-long}
+use Rattle.run_stage.proofs.Stretching.{rows-push}
 
 -- ---- lists of rows
-take-over : (k : ℕ) (xs ys : List Row) → length xs ≤ k → take k (xs ++ ys) ≡ xs ++ take (k - length xs) ys
-take-over k [] ys l = ap (λ n. take n ys) (let e : k ≡ k - 0 = omega arith in e)
-take-over zero (x ∷ xs) ys l = absurd (omega (arith, l))
-take-over (suc k) (x ∷ xs) ys l =
-    let e : k - length xs ≡ suc k - length (x ∷ xs) = omega arith in
-    ap (λ rs. x ∷ rs) (take-over k xs ys (omega (arith, l)) ∙ ap (λ n. xs ++ take n ys) e)
 
 get-over : (t : ℕ) (xs ys : List Row) → length xs ≤ t → slice_get (xs ++ ys) t ≡ slice_get ys (t - length xs)
 get-over t [] ys l = ap (slice_get ys) (let e : t ≡ t - 0 = omega arith in e)
@@ -69,12 +64,7 @@ get-over (suc t) (x ∷ xs) ys l =
 
 -- one stretch more, and what is behind it
 behind-more : (past : List (List Row)) (s rest : List Row) → rows_of (and_stretch past s) ++ rest ≡ rows_of past ++ (s ++ rest)
-behind-more past s rest = ap (λ (rs : List Row). rs ++ rest) (joined past s) ∙ append_assoc (rows_of past) s rest
-
-stable-front : (channels : List Channel) (rows : List Row) (k : ℕ) → AreStable channels rows → AreStable channels (take k rows)
-stable-front channels rows k stable t before now was is =
-    let l = within rows k t now is in
-    stable t before now (sym (row-before_take rows k t (omega (arith, l))) ∙ was) (sym (slice_get-take k rows t l) ∙ is)
+behind-more past s rest = ap (λ (rs : List Row). rs ++ rest) (rows-push past s) ∙ append_assoc (rows_of past) s rest
 
 -- ---- the rows since the last reset
 abbrev step : List Row → Row → List Row
@@ -285,7 +275,7 @@ run-is_kept d m offer stalls times cycles rows stop table lasting few x =
     let ss = and_stretch x.past x.here in
     let stay = λ (past : List (List Row)). stays-behind m.channels offer lasting past in
     let in-stretches = the-run_in d m w.offers (gates_behind m.channels w.plan) (turns_of w) cycles x.past x.here stop x.run in
-    let whole : rows_of ss ≡ rows = joined x.past x.here ∙ x.rows_are in
+    let whole : rows_of ss ≡ rows = rows-push x.past x.here ∙ x.rows_are in
     let short = run-long w x.past x.here stop x.run in
     let long = ap length x.rows_are in
     let row-in = λ (t : ℕ) (row : Row) (at : slice_get rows t ≡ Some row). placed w ss in-stretches.0 t row
@@ -512,7 +502,7 @@ drained-plain w rows None timed fits drains the =
       rows_are = the.rows_are;
       run = (
         plain-run w rows fits timed (λ t l. none-left (sizes_of w.bound.channels) w.plan rows drains t) (and_stretch the.past the.here)
-            (joined the.past the.here ∙ the.rows_are) r.0,
+            (rows-push the.past the.here ∙ the.rows_are) r.0,
         r.1,
         r.2,
         r.3,
@@ -523,7 +513,7 @@ drained-plain w rows (Some c) timed fits drains the =
     let next = stops.next in
     let all = rows ++ next ∷ [] in
     let whole : rows_of (and_stretch the.past (the.here ++ next ∷ [])) ≡ all =
-    joined the.past (the.here ++ next ∷ []) ∙ sym (append_assoc (rows_of the.past) the.here (next ∷ []))
+    rows-push the.past (the.here ++ next ∷ []) ∙ sym (append_assoc (rows_of the.past) the.here (next ∷ []))
     ∙ ap (λ (rs : List Row). rs ++ next ∷ []) the.rows_are in
     let none = none-more w rows next drains (not-fresh w the.past the.here next c stops.played stops.unstable) in
     record {

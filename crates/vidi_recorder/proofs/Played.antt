@@ -23,12 +23,13 @@ use Rattle.room_ledger.specs.Gates.{Plan}
 use Rattle.run_laws.proofs.Behind as behind
 use Rattle.run_stage.specs.chan_monitor.Shell.{IsMapped}
 use Rattle.run_stage.specs.Stretching.{all_rows, AllAreStable, ArePlayed, GoesOn, IsAsked}
-use Rattle.run_stage.proofs.Stretching.{all-push, before-push, unturned-push}
+use Rattle.run_stage.proofs.Stretching.{all-push, before-push, unturned-push, lone-row, rows-push}
 use Rattle.vidi_recorder.specs.Course.{Course, AreRunOf, AreTheRunOf, IsTheRunOf, gates_behind, turns_under, turns_within}
 use Rattle.vidi_recorder.specs.Recording.{IsFrontOfTheRun}
 use Rattle.vidi_recorder.specs.Standing.{Reached, bytes_so_far, rule_within}
-use Rattle.vidi_recorder.proofs.Runs.{FitsBehind, first-rows, front-first, front-next, front-there, is-ready, joined, one-row}
+use Rattle.vidi_recorder.proofs.Runs.{FitsBehind, first-rows, front-first, front-next, front-there, is-ready, one-row}
 use Rattle.vidi_recorder.proofs.Gated.{each-over}
+use Rattle.vidi_recorder.proofs.Kept.{some-past}
 
 module _ (d : Design) (m : Map) (offer : List Row → ℕ → Offer) (plan : Plan) (times : List ℕ) (cycles : ℕ) where
   abbrev pub the_course : Course
@@ -146,15 +147,6 @@ lone-stable : (channels : List Channel) (row : Row) → AreStable channels (row 
 lone-stable channels row zero before now b at c bad = absurd (cc)
 lone-stable channels row (suc t) before now b at c bad = absurd (cc)
 
-lone : (rows : List Row) → length rows ≡ 1 → (row : Row) × (rows ≡ row ∷ [])
-lone [] l = absurd (omega (arith, l))
-lone (row ∷ []) l = (row, refl)
-lone (row ∷ other ∷ rows) l = absurd (omega (arith, l))
-
-some-stretch : (past : List (List Row)) (here : List Row) → not (is_nil (and_stretch past here)) ≡ true
-some-stretch [] here = refl
-some-stretch (s ∷ past) here = refl
-
 module _ (d : Design) (m : Map) (offer : List Row → ℕ → Offer) (plan : Plan) (times : List ℕ) (cycles : ℕ) (past : List (List Row))
     (here : List Row) (played : ArePlayed d m (Rule d m offer plan times cycles) (Within d m offer plan times cycles) past here)
     (asked : IsAsked past (length here)) (few : length (all_rows past here) ≤ cycles) (stable : AllAreStable m.channels past here)
@@ -210,14 +202,14 @@ module _ (d : Design) (m : Map) (offer : List Row → ℕ → Offer) (plan : Pla
           ∥∥₁_elim (one-row w (is-ready w lawful ready) fit (and_stretch past here)
           (each-over m.channels (and_stretch past here) (λ k rs at. (each k rs at).is.marked)))
           ∥∥₁_prop (λ (x : (rs : List Row) × (length rs ≡ 1) × Behind d m offer plan times cycles (and_stretch past here) rs).
-          (let one = lone x.0 x.1 in
+          (let one = lone-row x.0 x.1 in
           let next = one.0 in
           let is : Behind d m offer plan times cycles (and_stretch past here) (next ∷ []) =
           subst (Behind d m offer plan times cycles (and_stretch past here)) one.1 x.2 in
-          let is_fresh : next.fresh ≡ true = (is.ruled 0 next refl).2 ∙ ap (λ b. b && true) (some-stretch past here) in
+          let is_fresh : next.fresh ≡ true = (is.ruled 0 next refl).2 ∙ ap (λ b. b && true) (some-past past here) in
           let run = behind.run-of d m (offers_after m.channels offer) (gates_behind m.channels plan) (turns_under m.channels plan times)
           (and_stretch past here) (next ∷ []) each is (λ k k_some l h. absurd (omega (arith, k_some, l))) (λ l. omega arith) in
-          let same = joined past here in
+          let same = rows-push past here in
           let long : length (rows_of (and_stretch past here) ++ next ∷ []) ≤ cycles =
           (let a = length_push (rows_of (and_stretch past here)) next in let b = ap length same in omega (arith, a, b, left)) in
           front-there w ready fit rows bytes lawful (λ all stop the. (

@@ -19,13 +19,13 @@ use Rattle.env_script.specs.run_model.Played.{AreStable}
 use Rattle.env_script.specs.run_model.Stretches.{AreTheRun, IsRunBehind, Turns, and_stretch, offers_behind, row_count, rows_of}
 use Rattle.run_laws.specs.StretchLaws.{Behind}
 use Rattle.run_laws.proofs.Chaining.{IsFront, is-front, same-of}
-use Rattle.run_laws.proofs.Ending.{one-ending_by, the-run_in}
+use Rattle.run_laws.proofs.Ending.{one-ending_by, the-run_in, count-rows}
 use Rattle.run_laws.proofs.StretchLaws.{Over, further-run, one-here, one-run_by, run-front}
 use Rattle.env_script.specs.Offer.{Offer}
 use Rattle.env_script.specs.Offered.{offers_after, AreLasting}
 use Rattle.env_script.proofs.Lasting.{lasting-behind, offers-fit}
 use Rattle.run_stage.specs.chan_monitor.Shell.{IsMapped}
-use Rattle.run_stage.proofs.Stretching.{all-same}
+use Rattle.run_stage.proofs.Stretching.{all-same, rows-push}
 use Rattle.vidi_recorder.specs.Course.{Course, course, gates_behind, turns_of, AreRunOf, AreTheRunOf, IsRunOf, IsTheRunOf}
 use Rattle.vidi_recorder.specs.Laws.{OneRecordedRun}
 use Rattle.vidi_recorder.specs.Recording.{IsFrontOfTheRun}
@@ -44,20 +44,15 @@ fits-behind channels offer lasting past over before are =
     offers-fit channels (λ rows. offer (rows_of past ++ rows)) (lasting-behind channels offer lasting (rows_of past)) before are
 
 -- ---- what holds of the run
-pub count-rows : (ss : List (List Row)) → row_count ss ≡ length (rows_of ss)
-count-rows ss = sym (length-flat_map (λ (rows : List Row). rows) ss)
 
 pub run-long : (w : Course) (past : List (List Row)) (here : List Row) (stop : Option ℕ) → AreTheRunOf w past here stop
     → length (rows_of past ++ here) ≤ w.cycles
 run-long w past here None (run, all, last, long) = omega (arith, long)
 run-long w past here (Some c) (stops, l) = omega (arith, l)
 
-pub joined : (past : List (List Row)) (here : List Row) → rows_of (and_stretch past here) ≡ rows_of past ++ here
-joined past here = sym (append-nil (rows_of (and_stretch past here))) ∙ all-same past here
-
 -- the rows of a run in stretches
 pub as-run : (w : Course) (past : List (List Row)) (here : List Row) → AreRunOf w (and_stretch past here) → IsRunOf w (rows_of past ++ here)
-as-run w past here run = record { stretches = and_stretch past here; rows_are = joined past here; run = run }
+as-run w past here run = record { stretches = and_stretch past here; rows_are = rows-push past here; run = run }
 
 pub run-of : (w : Course) (rows : List Row) (stop : Option ℕ) → IsTheRunOf w rows stop → IsRunOf w rows
 run-of w rows stop x = subst (IsRunOf w) x.rows_are (as-run w x.past x.here

@@ -1,6 +1,6 @@
 use Rattle.std.proofs.Common.{◌≡◌, ℕ, ◌≤◌, ◌++◌, List, None, [], length, refl, ap, sym, subst, ◌∙◌, arith}
 use Rattle.net_design.specs.declared.design.Design.{Design}
-use Rattle.run_stage.specs.Stretching.{all_rows}
+use Rattle.bench_run.specs.run_stage.Stretching.{all_rows}
 use Rattle.bench_run.specs.chan_map.declared.pins.Map.{Map}
 use Rattle.wave_text.specs.declared.wave.WaveNet.{WaveNet}
 use Rattle.wave_text.specs.Text.{text_of}

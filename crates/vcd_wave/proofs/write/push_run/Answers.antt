@@ -1,6 +1,6 @@
 use Rattle.std.proofs.Common.{◌≡◌, ap, sym, subst, ◌∙◌}
 use Rattle.std.specs.Io.KnownBytes.{append_known}
-use Rattle.run_stage.proofs.chan_monitor_lemmas.vidi_bits_lemmas.Results.{on_err}
+use Rattle.bench_run.proofs.run_stage_lemmas.chan_monitor_lemmas.vidi_bits_lemmas.Results.{on_err}
 use Rattle.vidi_recorder.specs.vidi_io.Sink.{AppendsSome}
 use Rattle.wave_text.specs.text_page.Pad.{shown}
 use Rattle.wave_text.specs.Text.{wave_text}

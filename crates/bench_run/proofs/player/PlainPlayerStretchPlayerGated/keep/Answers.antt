@@ -6,8 +6,8 @@ use Rattle.run_stage.specs.chan_map.declared.pins.Map.{Map}
 use Rattle.env_script.specs.Offered.{offers_on}
 use Rattle.bench_run.specs.Playing.{IsAt}
 use Rattle.run_stage.specs.Stretching.{all_rows}
-use Rattle.run_stage.proofs.Stretching.{over-last}
-use Rattle.bench_run.proofs.Growing.{carries-last, due, ends-last, err-any, fits-now, fresher, longer, more, offers-long, rule}
+use Rattle.run_stage.proofs.Stretching.{over-last, all-more}
+use Rattle.bench_run.proofs.Growing.{carries-last, due, ends-last, err-any, fits-now, fresher, longer, offers-long, rule}
 use Rattle.bench_run.proofs.player.PlainPlayerStretchPlayerGated.keep.Goals as goal
 
 pub commit-requires-clause-over : goal.commit-requires-clause-over
@@ -89,7 +89,7 @@ returns-clause-stands g c first past here long at ruled =
         channels = c.commit.ensures.channels ∙ at.0.channels;
         few = at.0.few;
       },
-      subst (IsAt first.map.now.channels (g.E.Env.stands_for env) (g.E.Env.current env) _) (more past here row) (record {
+      subst (IsAt first.map.now.channels (g.E.Env.stands_for env) (g.E.Env.current env) _) (all-more past here row) (record {
         stands = c.commit.ensures.rows rows at.1.stands;
         kept_are = c.in_ok-push.ensures.ok ∙ ap (λ (rs : List Row). rs ++ c.in_ok-row.row ∷ []) at.1.kept_are
             ∙ ap (λ (r : Row). rows ++ r ∷ []) c.in_ok-row.ensures;
@@ -111,7 +111,7 @@ returns-in_err-row-clause-broke g c = err-any c.from_residual.result (λ first p
     channels = c.commit.ensures.channels ∙ at.0.channels;
     few = at.0.few;
   },
-  subst (g.E.Env.stands_for c.commit.new.self) (more past here c.args.last.now) (c.commit.ensures.rows (all_rows past here) at.1.stands),
+  subst (g.E.Env.stands_for c.commit.new.self) (all-more past here c.args.last.now) (c.commit.ensures.rows (all_rows past here) at.1.stands),
 ))
 
 pub returns-in_err-push-clause-broke : goal.returns-in_err-push-clause-broke
@@ -125,5 +125,5 @@ returns-in_err-push-clause-broke g c = err-any c.from_residual-in_err-push.resul
     channels = c.commit.ensures.channels ∙ at.0.channels;
     few = at.0.few;
   },
-  subst (g.E.Env.stands_for c.commit.new.self) (more past here c.args.last.now) (c.commit.ensures.rows (all_rows past here) at.1.stands),
+  subst (g.E.Env.stands_for c.commit.new.self) (all-more past here c.args.last.now) (c.commit.ensures.rows (all_rows past here) at.1.stands),
 ))

@@ -8,12 +8,12 @@ use Rattle.run_stage.specs.chan_replayer.Feed.{IsFeed, IsFeedOver}
 use Rattle.run_stage.specs.run_model.Replay.{done}
 use Rattle.run_stage.specs.run_model.Stretches.{rows_of}
 use Rattle.run_stage.specs.Stretching.{all_rows}
-use Rattle.run_stage.proofs.Stretching.{all-longer, over-last}
+use Rattle.run_stage.proofs.Stretching.{all-longer, over-last, all-more}
 use Rattle.trace_code.proofs.RowsBytes.{end-within, rows-few}
 use Rattle.replay_run.specs.Behind.{AreBehind}
 use Rattle.replay_run.specs.Output.{HasRoomFor, IsWritten}
 use Rattle.replay_run.specs.Standing.{IsNextRow, IsTurn}
-use Rattle.replay_run.proofs.Playing.{done-push, kept-here, more-rows, room-left}
+use Rattle.replay_run.proofs.Playing.{done-push, kept-here, room-left}
 use Rattle.replay_run.proofs.feeder.FeederStretchPlayerFeed.keep.Goals as goal
 
 pub follow-requires-clause-stands : goal.follow-requires-clause-stands
@@ -68,7 +68,7 @@ returns-clause-stands c first past here long stands ruled =
             ∙ ap (λ n. n + bit_at last.ends k) (stands.kept.counts k l) ∙ ap (λ (f : ℕ → ℕ). f k) (done-push here last last.ends refl);
         inward = stands.kept.inward;
         written = subst (λ (m : Map). IsWritten m.channels next c.push.new.self) stands.map
-            (subst (λ (rows : List Row). IsWritten self.map.now.channels rows c.push.new.self) (more-rows past here last)
+            (subst (λ (rows : List Row). IsWritten self.map.now.channels rows c.push.new.self) (all-more past here last)
             (c.push.ensures.written all long kept.written));
         room = subst (λ (m : Map). HasRoomFor m.channels (first.cycles - length next) c.push.new.self) stands.map
             (c.push.ensures.room (first.cycles - length next)

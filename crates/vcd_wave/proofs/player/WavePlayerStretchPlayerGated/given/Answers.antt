@@ -1,5 +1,5 @@
 use Rattle.std.proofs.Common.{ap, ◌∙◌}
-use Rattle.run_stage.specs.Stretching.{all_rows}
+use Rattle.bench_run.specs.run_stage.Stretching.{all_rows}
 use Rattle.bench_run.proofs.Growing.{fits-now, given-fits, given-ruled}
 use Rattle.vcd_wave.proofs.player.WavePlayerStretchPlayerGated.given.Goals as goal
 

@@ -5,9 +5,9 @@ use Rattle.bench_run.specs.trace_model.Row.{IsOver}
 use Rattle.bench_run.specs.chan_map.declared.pins.Map.{Map}
 use Rattle.bench_run.specs.env_script.Offered.{offers_on}
 use Rattle.vcd_wave.specs.Offering.{IsOffering}
-use Rattle.run_stage.specs.Stretching.{all_rows}
-use Rattle.run_stage.proofs.Stretching.{over-last}
-use Rattle.bench_run.proofs.Growing.{carries-last, due, ends-last, fits-now, fresher, longer, more, offers-long, rule}
+use Rattle.bench_run.specs.run_stage.Stretching.{all_rows}
+use Rattle.bench_run.proofs.run_stage_lemmas.Stretching.{over-last, all-more}
+use Rattle.bench_run.proofs.Growing.{carries-last, due, ends-last, fits-now, fresher, longer, offers-long, rule}
 use Rattle.vcd_wave.proofs.player.WavePlayerStretchPlayerGated.keep.Goals as goal
 
 pub commit-requires-clause-over : goal.commit-requires-clause-over
@@ -88,7 +88,7 @@ returns-clause-stands g c first past here long at ruled =
         channels = c.commit.ensures.channels ∙ at.0.channels;
         few = at.0.few;
       },
-      subst (IsOffering first.map.now.channels (g.E.Env.stands_for env) (g.E.Env.current env) _ _ _) (more past here row) (record {
+      subst (IsOffering first.map.now.channels (g.E.Env.stands_for env) (g.E.Env.current env) _ _ _) (all-more past here row) (record {
         stands = c.commit.ensures.rows rows at.1.stands;
         count = longer rows row c.args.cycle long;
         came_is = fresher rows row _ _ at.1.came_is c.mark_of.ensures;

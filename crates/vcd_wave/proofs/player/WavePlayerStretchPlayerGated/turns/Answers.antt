@@ -1,7 +1,7 @@
 use Rattle.std.proofs.Common.{ap, sym, subst, ◌∙◌}
 use Rattle.std.proofs.lemmas.Bool.{false≢true}
 use Rattle.bench_run.specs.env_script.Resets.{is_due}
-use Rattle.run_stage.proofs.Stretching.{all-same}
+use Rattle.bench_run.proofs.run_stage_lemmas.Stretching.{all-same}
 use Rattle.vcd_wave.specs.Offering.{IsOffering}
 use Rattle.bench_run.proofs.Growing.{said-due}
 use Rattle.vcd_wave.proofs.player.WavePlayerStretchPlayerGated.turns.Goals as goal

@@ -1,7 +1,7 @@
 use Rattle.std.proofs.Common.{List, ℕ, Option, Some, length, ap, sym, subst, ◌∙◌}
 use Rattle.net_design.specs.declared.design.Design.{Design}
 use Rattle.net_design.specs.declared.values.Values.{Values}
-use Rattle.run_stage.proofs.trace_model_lemmas.RowLemmas.{before-last}
+use Rattle.bench_run.proofs.run_stage_lemmas.trace_model_lemmas.RowLemmas.{before-last}
 use Rattle.bench_run.specs.trace_model.declared.row.Row.{Row}
 use Rattle.bench_run.specs.trace_model.Row.{row_before}
 use Rattle.vcd_wave.specs.Seen.{IsSeen}

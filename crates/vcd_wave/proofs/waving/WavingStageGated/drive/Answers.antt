@@ -1,5 +1,5 @@
 use Rattle.std.proofs.Common.{refl}
-use Rattle.run_stage.proofs.chan_replayer_lemmas.Feeding.{over}
+use Rattle.bench_run.proofs.run_stage_lemmas.chan_replayer_lemmas.Feeding.{over}
 use Rattle.vcd_wave.proofs.Printing.{nets-stay}
 use Rattle.vcd_wave.proofs.waving.WavingStageGated.drive.Goals as goal
 

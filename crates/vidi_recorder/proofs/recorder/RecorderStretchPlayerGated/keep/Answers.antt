@@ -11,11 +11,12 @@ use Rattle.run_stage.specs.Stretching.{all_rows}
 use Rattle.vidi_recorder.specs.Course.{plan_of}
 use Rattle.vidi_recorder.specs.Standing.{BreaksAt, Going, IsAsFar, IsNextFresh, end_so_far}
 use Rattle.vidi_recorder.proofs.Keeping.{breaks-back, came-now, comes-is, count-after, cut-now, end-after, ended-within, ends-now, going-more, may}
-use Rattle.vidi_recorder.proofs.Keeping.{may-turn, more, next-now, own}
+use Rattle.vidi_recorder.proofs.Keeping.{may-turn, next-now, own}
 use Rattle.vidi_recorder.proofs.Keeping.{Puts, kept_sizes, packets-within, row-next, some, stands-back, waits-mid, waits-now}
 use Rattle.vidi_recorder.proofs.Turning.{carries-now, given-long}
 use Rattle.vidi_recorder.proofs.Turns.{fits-now, lasting, written-len}
 use Rattle.vidi_recorder.proofs.recorder.RecorderStretchPlayerGated.keep.Goals as goal
+use Rattle.run_stage.proofs.Stretching.{all-more}
 
 any_err : {X E : Type 0} (Q : E → Type 0) (r : Result X E) → ((e : E) → Q e) → IfErr r Q
 any_err Q (Ok x) f = tt
@@ -505,7 +506,7 @@ returns-in_err-give-clause-broke g c =
       breaks-back first.map.now m first.stalls.now stalls first.resets.now times first.cycles cycles _ _ _ _ _ _ stands.0 begun
           (g.K.Sink.told c.give.new.sink) (g.E.Env.stands_for c.commit.new.self) (all_rows past (here ++ row ∷ []))
           (subst (BreaksAt m.channels (plan_of stalls times) times cycles begun (g.K.Sink.told c.give.new.sink)
-          (g.E.Env.stands_for c.commit.new.self)) (more past here row) (record {
+          (g.E.Env.stands_for c.commit.new.self)) (all-more past here row) (record {
             played = c.commit.ensures.rows rows k.at.far.played;
             cut = cut-now m offer stalls times cycles given begun told stands_for current cells past here row lasts k t long
                 c.keep.new.cells c.restart.new.cells comes p
@@ -652,7 +653,7 @@ returns-clause-stands g c first past here long stands ruled =
       stands-back first.map.now m first.stalls.now stalls first.resets.now times first.cycles cycles _ _ _ _ _ _ stands.0 begun
           (g.K.Sink.told c.give.new.sink) (g.E.Env.stands_for then) (g.E.Env.current then) _ past (here ++ row ∷ []) (record {
             far = subst (IsAsFar m.channels (plan_of stalls times) begun (g.K.Sink.told c.give.new.sink) (g.E.Env.stands_for then)
-                (g.E.Env.current then) _) (more past here row) at;
+                (g.E.Env.current then) _) (all-more past here row) at;
             next = subst (IsNextFresh m.channels (plan_of stalls times) times cycles past (here ++ row ∷ [])) fresh
                 (next-now m offer stalls times cycles given begun told stands_for current cells past here row lasts k t long
                 c.keep.new.cells c.restart.new.cells comes p);
