@@ -1,9 +1,10 @@
 -- Stretches of played rows, one row or one reset longer.
-use Rattle.std.proofs.Common.{◌≡◌, ℕ, ◌+◌, ◌<◌, ◌≤◌, Bool, false, List, [], ◌∷◌, ◌++◌, Some, None, Result, Err, IfErr, All}
-use Rattle.std.proofs.Common.{length, slice_get, take, append_assoc, refl, ap, sym, subst, ◌∙◌, arith, ⊎_elim}
+use Rattle.std.proofs.Common.{◌≡◌, ◌×◌, ℕ, ◌+◌, ◌<◌, ◌≤◌, Bool, false, List, [], ◌∷◌, ◌++◌, Some, None, Result, Err, IfErr, All}
+use Rattle.std.proofs.Common.{length, slice_get, take, append_assoc, refl, ap, sym, subst, ◌∙◌, arith, ⊎_elim, absurd}
 use Rattle.std.proofs.Math.Logic.{∥∥₁_elim, ∥∥₁_map}
 use Rattle.std.proofs.lemmas.Bool.{cases_lt}
 use Rattle.std.proofs.lemmas.List.{append-nil, length_push, take-append-le, take_all}
+use Rattle.std.proofs.lemmas.List.Concat.{length-flat_map}
 use Rattle.std.proofs.lemmas.List.Elements.{All-append, All-cons, All-nil}
 use Rattle.chan_replayer.specs.trace_model.declared.channel.Channel.{Channel}
 use Rattle.chan_replayer.specs.trace_model.declared.row.Row.{Row}
@@ -15,13 +16,12 @@ use Rattle.net_design.specs.declared.values.Values.{Values}
 use Rattle.chan_replayer.specs.chan_map.declared.pins.Map.{Map}
 use Rattle.chan_replayer.specs.run_model.Played.{AreStable, IsPlayed, StopsBefore}
 use Rattle.chan_replayer.specs.run_model.Step.{IsFirst, IsStep}
-use Rattle.chan_replayer.specs.run_model.Stretches.{IsTurned, IsUnturned, and_stretch, rows_of}
+use Rattle.chan_replayer.specs.run_model.Stretches.{IsTurned, IsUnturned, and_stretch, row_count, rows_of}
 use Rattle.chan_replayer.proofs.run_model_lemmas.PlayedLaws.{Grown, played-nil, played-push}
 use Rattle.run_stage.specs.Playing.{IsLast, IsShown}
 use Rattle.run_stage.specs.Stretching.{all_rows, is_fresh_behind, AllAreStable, ArePlayed, AreRuledStretches, BeginsBehind, GoesOn, GoesTo}
 use Rattle.run_stage.specs.Stretching.{IsAsked, PlayStretches}
 use Rattle.run_stage.proofs.Turning.{last-of, last-push, over_prop, stable-nil, stable-push, unstable-now}
-use Rattle.std.proofs.lemmas.List.Concat.{length-flat_map}
 
 -- ---- stretches
 pub unturned-push : (turns : List (List Row) → List Row → Type 0) (past : List (List Row)) (here : List Row) (row : Row)
