@@ -11,10 +11,10 @@ use Rattle.vlog_hierarchy.specs.vidi_bits.Findings.{first}
 use Rattle.vlog_tree.specs.Tree.{ModuleOf}
 use Rattle.vlog_tree.specs.declared.module.Module.{Module}
 use Rattle.vlog_tree.specs.Plain.{plain_module}
-use Rattle.vlog_kinds.specs.vlog_names.declared.error.NameError.{NameError}
-use Rattle.vlog_kinds.specs.vlog_names.declared.error.NameError.TheVariants as name
-use Rattle.vlog_kinds.specs.vlog_names.Told.{name_told}
-use Rattle.vlog_kinds.specs.declared.error.KindError.{KindError}
+use Rattle.vlog_names.specs.declared.error.NameError.{NameError}
+use Rattle.vlog_names.specs.declared.error.NameError.TheVariants as name
+use Rattle.vlog_names.specs.Told.{name_told}
+use Rattle.vlog_names.specs.declared.kinds.error.KindError.{KindError}
 use Rattle.vlog_hierarchy.specs.declared.error.HierarchyError.{HierarchyError}
 use Rattle.vlog_hierarchy.specs.declared.error.HierarchyError.TheVariants as hierarchy
 use Rattle.vlog_hierarchy.specs.Told.{hierarchy_told}

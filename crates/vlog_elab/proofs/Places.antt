@@ -8,7 +8,7 @@ use Rattle.std.proofs.lemmas.Option.{slice_get-get_or, slice_get_cases}
 use Rattle.vlog_tree.specs.Tree.{ModuleOf}
 use Rattle.vlog_hierarchy.specs.vlog_size.Table.{Named}
 use Rattle.vlog_hierarchy.specs.vlog_size.Table as table
-use Rattle.vlog_kinds.specs.vlog_names.Entries.{Names, module_entry}
+use Rattle.vlog_names.specs.Entries.{Names, module_entry}
 use Rattle.vlog_hierarchy.specs.Outlines.{place_from, place_of}
 use Rattle.vlog_hierarchy.proofs.Closed.{top_below}
 

@@ -5,7 +5,7 @@ use Rattle.vlog_hierarchy.specs.vidi_bits.Findings.{told_if}
 use Rattle.vlog_tree.specs.Tree.{PortOf}
 use Rattle.vlog_hierarchy.specs.vlog_size.declared.scope.ScopeNet.{ScopeNet}
 use Rattle.vlog_hierarchy.specs.vlog_size.Table.{Named, value_of}
-use Rattle.vlog_kinds.specs.vlog_names.Ports.{input_after}
+use Rattle.vlog_names.specs.Ports.{input_after}
 use Rattle.vlog_elab.specs.Instances.{ModuleInstance}
 
 abbrev pub is_one_bit : Option ScopeNet → Bool

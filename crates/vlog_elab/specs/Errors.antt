@@ -1,8 +1,8 @@
 -- The findings of the crates below as reasons why a design text is refused.
 use Rattle.std.specs.Prelude.{ℕ, Option, None, Some}
-use Rattle.vlog_kinds.specs.vlog_names.declared.error.NameError.{NameError}
-use Rattle.vlog_kinds.specs.vlog_names.declared.error.NameError.TheVariants as name
-use Rattle.vlog_kinds.specs.declared.error.KindError.{KindError}
+use Rattle.vlog_names.specs.declared.error.NameError.{NameError}
+use Rattle.vlog_names.specs.declared.error.NameError.TheVariants as name
+use Rattle.vlog_names.specs.declared.kinds.error.KindError.{KindError}
 use Rattle.vlog_hierarchy.specs.declared.error.HierarchyError.{HierarchyError}
 use Rattle.vlog_hierarchy.specs.declared.error.HierarchyError.TheVariants as hierarchy
 use Rattle.vlog_hierarchy.specs.declared.error.HierarchyLimit.{HierarchyLimit}

@@ -10,7 +10,7 @@ use Rattle.vlog_scope.specs.Scope.{readable_at, after_item, scope_of, scope_with
 use Rattle.vlog_hierarchy.specs.Nodes.{Node}
 use Rattle.vlog_hierarchy.specs.Outlines.{place_of}
 use Rattle.vlog_hierarchy.specs.declared.nodes.TheConstants.{MOST_LEVELS}
-pub use Rattle.vlog_kinds.specs.vlog_names.Entries.{modules_of}
+pub use Rattle.vlog_names.specs.Entries.{modules_of}
 
 -- an instance: the names of the instances that lead to it, the top's left out; the place of its module in the file, counted from 0;
 -- that module; and its scope

@@ -10,6 +10,6 @@ pub use Rattle.vlog_scope.specs.Scope
 pub use Rattle.vlog_hierarchy.specs.Nested
 pub use Rattle.vlog_hierarchy.specs.vidi_bits as vidi_bits
 pub use Rattle.vlog_hierarchy.specs as vlog_hierarchy
-pub use Rattle.vlog_kinds.specs.vlog_names as vlog_names
+pub use Rattle.vlog_names.specs as vlog_names
 pub use Rattle.vlog_scope.specs as vlog_scope
 pub use Rattle.vlog_hierarchy.specs.vlog_size as vlog_size

@@ -4,7 +4,7 @@ use Rattle.std.specs.Borrow.{Bor}
 use Rattle.vlog_tree.specs.Tree.{ModuleOf, FileOf}
 use Rattle.vlog_tree.specs.Plain.{plain_module}
 use Rattle.vlog_tree.specs.declared.module.Module.{Module}
-use Rattle.vlog_kinds.specs.vlog_names.Entries.{module_entry}
+use Rattle.vlog_names.specs.Entries.{module_entry}
 use Rattle.vlog_hierarchy.specs.Plain.{plain_path}
 use Rattle.vlog_hierarchy.specs.Outlines.{outlines_of}
 use Rattle.vlog_hierarchy.specs.Nodes.{firsts, net_total}

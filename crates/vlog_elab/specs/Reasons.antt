@@ -4,9 +4,9 @@ use Rattle.std.specs.Prelude.{◌≡◌, ◌⊎◌, ℕ, nat_lt, List, [], ◌++
 use Rattle.std.specs.List.{flat_map, sum_by}
 use Rattle.vlog_hierarchy.specs.vidi_bits.Findings.{told_if}
 use Rattle.vlog_tree.specs.Tree.{ModuleOf, FileOf}
-use Rattle.vlog_kinds.specs.vlog_names.Twice.{twice_names}
-use Rattle.vlog_kinds.specs.vlog_names.Unknown.{unknown_names}
-use Rattle.vlog_kinds.specs.Uses.{wrong_uses}
+use Rattle.vlog_names.specs.Twice.{twice_names}
+use Rattle.vlog_names.specs.Unknown.{unknown_names}
+use Rattle.vlog_names.specs.Uses.{wrong_uses}
 use Rattle.vlog_hierarchy.specs.Outlines.{Outline, place_of, outlines_of}
 use Rattle.vlog_hierarchy.specs.Nested.{IsNestedAnswer}
 use Rattle.vlog_hierarchy.specs.Nodes.{Node, nodes_of, size_faults}

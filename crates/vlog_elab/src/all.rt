@@ -4,7 +4,7 @@ ghost use Rattle.vlog_hierarchy.specs.declared.nodes.TheConstants.{MOST_LEVELS};
 ghost use Rattle.std.specs.Prelude.{◌≡◌, IfOk, OnOk, [], map};
 ghost use Rattle.std.specs.List.{flat_map};
 ghost use Rattle.vlog_tree.specs.Plain.{plain, plain_module};
-ghost use Rattle.vlog_kinds.specs.vlog_names.Entries.{modules_of};
+ghost use Rattle.vlog_names.specs.Entries.{modules_of};
 ghost use Rattle.vlog_hierarchy.specs.Outlines.{place_of};
 ghost use Rattle.vlog_elab.specs.Instances as instances;
 ghost use Rattle.vlog_elab.specs.Plain.{trees_in, plain_instances, IsTable};
@@ -15,7 +15,7 @@ use crate::modules::{Modules, module_at, place_named};
 use std::alloc::Global;
 use vlog_hierarchy::MOST_LEVELS;
 use vlog_hierarchy::vidi_bits::{Items, Memory};
-use vlog_kinds::vlog_names::ModuleTable;
+use vlog_names::ModuleTable;
 use vlog_scope::top_scope;
 use vlog_tree::{File, Module};
 

@@ -17,7 +17,7 @@ use std::alloc::Global;
 use vlog_hierarchy::check_clock;
 use vlog_hierarchy::vidi_bits::{Items, Memory, Name};
 use vlog_hierarchy::vlog_size::ScopeNets;
-use vlog_kinds::vlog_names::input_after;
+use vlog_names::input_after;
 use vlog_tree::{File, Port};
 
 fn is_one_bit(nets: &ScopeNets, name: &[u8]) -> bool

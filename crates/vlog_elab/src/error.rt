@@ -6,8 +6,7 @@ ghost use Rattle.vlog_elab.specs.Errors.{number_of};
 use vlog_hierarchy::vidi_bits::{Memory, Name};
 use vlog_hierarchy::vlog_size::SizeError;
 use vlog_hierarchy::{HierarchyError, HierarchyLimit};
-use vlog_kinds::KindError;
-use vlog_kinds::vlog_names::NameError;
+use vlog_names::{KindError, NameError};
 
 /// A limit on the size of a design.
 #[derive(Clone, Copy, Debug, PartialEq, Eq)]

@@ -2,7 +2,7 @@
 
 use vlog_hierarchy::vidi_bits::{Items, Name};
 use vlog_hierarchy::vlog_size::Scope;
-use vlog_kinds::vlog_names::ModuleTable;
+use vlog_names::ModuleTable;
 use vlog_tree::Module;
 
 /// An instance of the design.

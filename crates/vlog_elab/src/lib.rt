@@ -22,5 +22,5 @@ pub use laws::instances_are_nodes;
 pub use reasons::instances_of;
 pub use vlog_hierarchy;
 pub use vlog_hierarchy::{vidi_bits, vlog_size};
-pub use vlog_kinds::vlog_names;
+pub use vlog_names;
 pub use vlog_scope;

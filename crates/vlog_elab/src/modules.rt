@@ -5,7 +5,7 @@ ghost use Rattle.vlog_tree.specs.Plain.{plain_module};
 ghost use Rattle.vlog_hierarchy.specs.Outlines.{place_of};
 ghost use Rattle.vlog_elab.specs.Plain.{plain_borrowed, IsTable};
 
-use vlog_kinds::vlog_names::ModuleTable;
+use vlog_names::ModuleTable;
 use vlog_tree::Module;
 
 /// The modules of a file, and what each declares by name.

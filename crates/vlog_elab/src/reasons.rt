@@ -4,7 +4,7 @@ ghost use Rattle.std.specs.Prelude.{◌≡◌, ◌<◌, ◌^◌, ◌-◌, ◌↔
 ghost use Rattle.std.specs.List.{flat_map};
 ghost use Rattle.vlog_tree.specs.Tree.{ModuleOf};
 ghost use Rattle.vlog_tree.specs.Plain.{plain, plain_module};
-ghost use Rattle.vlog_kinds.specs.vlog_names.Entries.{modules_of};
+ghost use Rattle.vlog_names.specs.Entries.{modules_of};
 ghost use Rattle.vlog_hierarchy.specs.Outlines.{outlines_of, place_of};
 ghost use Rattle.vlog_hierarchy.specs.Nodes.{nodes_of, firsts, net_total};
 ghost use Rattle.vlog_elab.specs.Instances.{instances, node_of};
@@ -20,8 +20,7 @@ use crate::instance::{ModuleInstance, ModuleInstances};
 use std::alloc::Global;
 use vlog_hierarchy::vidi_bits::{Items, Memory, Name, copied};
 use vlog_hierarchy::{Nodes, nested};
-use vlog_kinds::check_kinds;
-use vlog_kinds::vlog_names::{ModuleTable, check_names};
+use vlog_names::{ModuleTable, check_kinds, check_names};
 use vlog_scope::{const_fault, is_faultless, width_fault, words_of};
 use vlog_tree::File;
 

@@ -1,3 +1,0 @@
-pub mod Examples
-pub mod Firsts
-pub use Rattle.vlog_names.proofs as vlog_names_lemmas

@@ -1,0 +1,10 @@
+use Rattle.std.proofs.Common.{◌≡◌, drop, map}
+use Rattle.std.specs.List.{flat_map}
+use Rattle.vlog_tree.specs.Plain.{plain_conn}
+use Rattle.vlog_names.specs.Uses.{in_port_conn}
+use Rattle.vlog_names.proofs.kinds.connections.check_child_ports.Given as goal
+
+abbrev pub invariant-loop-conn : goal.invariant-loop-conn
+invariant-loop-conn l =
+    flat_map (in_port_conn l.child l.names) (map plain_conn (drop l.conn-index l.conns))
+    ≡ flat_map (in_port_conn l.child l.names) (map plain_conn l.conns)
