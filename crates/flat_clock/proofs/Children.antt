@@ -12,8 +12,8 @@ use Rattle.flat_parts.specs.vlog_size.declared.scope.Scope.{Scope}
 use Rattle.flat_parts.specs.vlog_elab.Scope.{readable_at, after_item, scope_of}
 use Rattle.flat_parts.specs.vlog_hierarchy.Outlines.{Child, place_of, child_at, item_children, children_of, outline_of, outlines_of, children_in}
 use Rattle.flat_parts.specs.vlog_hierarchy.Outlines.{children_at}
-use Rattle.flat_parts.specs.vlog_meaning.Placed.{Placed, placed}
-use Rattle.flat_parts.specs.vlog_meaning.Instances.{IsChild}
+use Rattle.flat_parts.specs.vlog_driver.Placed.{Placed, placed}
+use Rattle.flat_parts.specs.vlog_driver.Instances.{IsChild}
 use Rattle.flat_parts.proofs.Named.{named_at, place_is}
 use Rattle.flat_parts.specs.vlog_names.Entries.{module_entry}
 use Rattle.flat_parts.specs.vlog_names.Different.{Differ}

@@ -21,8 +21,8 @@ use Rattle.flat_parts.specs.vlog_names.Entries.{entry, parameter_entry, port_as,
 use Rattle.flat_parts.specs.vlog_names.Different.{Differ, OtherName}
 use Rattle.flat_parts.specs.vlog_names.Ports.{is_input_port, input_after}
 use Rattle.flat_parts.specs.vlog_elab.Clock as clock
-use Rattle.flat_parts.specs.vlog_meaning.Names.{Name}
-use Rattle.flat_parts.specs.vlog_meaning.Settled.{is_input, input_names, inputs_of}
+use Rattle.flat_parts.specs.vlog_driver.Names.{Name}
+use Rattle.flat_parts.specs.vlog_driver.Settled.{is_input, input_names, inputs_of}
 use Rattle.net_design.specs.declared.design.Port.{Port}
 use Rattle.flat_parts.specs.Nets.{port_of, flat_ports}
 use Rattle.flat_parts.proofs.Lists.{pairs_first, pairs_rest, pairs_behind, pairs_front}

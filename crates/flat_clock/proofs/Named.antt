@@ -26,8 +26,8 @@ use Rattle.flat_parts.specs.vlog_elab.Instances.{ModuleInstance, instances, node
 use Rattle.flat_parts.specs.vlog_elab.Clock.{clock_inputs}
 use Rattle.flat_parts.specs.vlog_elab.Reasons.{Clear, hierarchy_findings, instance_findings, clock_findings, late_findings, size_findings}
 use Rattle.flat_parts.proofs.vlog_elab_lemmas.Same.{same_nodes}
-use Rattle.flat_parts.specs.vlog_meaning.Names.{Name, Full}
-use Rattle.flat_parts.specs.vlog_meaning.Settled.{inputs_of, Joins, Waits, IsClock}
+use Rattle.flat_parts.specs.vlog_driver.Names.{Name, Full}
+use Rattle.flat_parts.specs.vlog_driver.Settled.{inputs_of, Joins, Waits, IsClock}
 use Rattle.flat_parts.specs.Laws.{IsTop}
 use Rattle.flat_parts.proofs.Lists.{in_got}
 use Rattle.flat_parts.proofs.Found.{no_twice, modules_apart, few}

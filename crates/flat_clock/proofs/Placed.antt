@@ -6,7 +6,7 @@ use Rattle.net_design.specs.declared.design.Port.{Port}
 use Rattle.flat_parts.specs.vlog_elab.Instances.{ModuleInstance, instances}
 use Rattle.flat_parts.specs.vlog_elab.Clock.{clock_inputs}
 use Rattle.flat_parts.specs.vlog_elab.Reasons.{Clear}
-use Rattle.flat_parts.specs.vlog_meaning.Names.{Name}
+use Rattle.flat_parts.specs.vlog_driver.Names.{Name}
 use Rattle.flat_parts.specs.Nets.{flat_ports}
 use Rattle.flat_parts.specs.Built.{IsClockPort}
 use Rattle.flat_parts.specs.Laws.{IsTop}

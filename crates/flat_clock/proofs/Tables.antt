@@ -15,8 +15,8 @@ use Rattle.flat_parts.specs.vlog_size.Table.{Named, value_of, added}
 use Rattle.flat_parts.specs.vlog_names.Twice.{twice_name, twice_among, twice_connected, conn_entry}
 use Rattle.flat_parts.specs.vlog_hierarchy.Clock.{ports_from, plain_name, port_of_name, port_of_value, joined_as, conn_joined}
 use Rattle.flat_parts.specs.vlog_hierarchy.Clock.{conns_joined, child_joined}
-use Rattle.flat_parts.specs.vlog_meaning.Items.{read}
-use Rattle.flat_parts.specs.vlog_meaning.Settled.{ConnJoins}
+use Rattle.flat_parts.specs.vlog_driver.Items.{read}
+use Rattle.flat_parts.specs.vlog_driver.Settled.{ConnJoins}
 
 -- ---- tables
 

@@ -14,8 +14,8 @@ use Rattle.flat_parts.specs.vlog_hierarchy.Outlines.{Child, outlines_of, childre
 use Rattle.flat_parts.specs.vlog_hierarchy.Clock.{scopes, child_scopes, child_joined}
 use Rattle.flat_parts.proofs.vlog_hierarchy_lemmas.Scoped.{no_deeper, deeper}
 use Rattle.flat_parts.proofs.vlog_elab_lemmas.Places.{there}
-use Rattle.flat_parts.specs.vlog_meaning.Names.{Name, Full}
-use Rattle.flat_parts.specs.vlog_meaning.Settled.{Joins}
+use Rattle.flat_parts.specs.vlog_driver.Names.{Name, Full}
+use Rattle.flat_parts.specs.vlog_driver.Settled.{Joins}
 use Rattle.flat_parts.proofs.Lists.{long_flat, in_got}
 use Rattle.flat_clock.proofs.Tables.{Plain, plain_joined, JoinedBy, joined_by, joined_as_outer}
 use Rattle.flat_clock.proofs.Children.{IsKid, is_kid, Own, own_child, Listed, listed_child, item_in}

@@ -9,8 +9,8 @@ use Rattle.flat_parts.specs.vlog_elab.Scope.{scope_with}
 use Rattle.flat_parts.specs.vlog_elab.Instances.{ModuleInstance, instances}
 use Rattle.flat_parts.specs.vlog_elab.Clock.{clock_inputs}
 use Rattle.flat_parts.specs.vlog_elab.Reasons.{Clear}
-use Rattle.flat_parts.specs.vlog_meaning.Names.{Name}
-use Rattle.flat_parts.specs.vlog_meaning.Settled.{IsClock}
+use Rattle.flat_parts.specs.vlog_driver.Names.{Name}
+use Rattle.flat_parts.specs.vlog_driver.Settled.{IsClock}
 use Rattle.flat_parts.specs.Nets.{flat_ports}
 use Rattle.flat_parts.specs.Built.{IsClockPort}
 use Rattle.flat_parts.specs.Laws.{IsTop}

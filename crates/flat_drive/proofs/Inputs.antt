@@ -14,8 +14,8 @@ use Rattle.flat_parts.specs.vlog_size.Table.{Named, value_of, added}
 use Rattle.flat_parts.specs.vlog_names.declared.declaration.Declaration.{Declaration}
 use Rattle.flat_parts.specs.vlog_names.Entries.{port_entries, port_as, no_port}
 use Rattle.flat_parts.specs.vlog_names.Ports.{is_input_port, input_after, is_output_port}
-use Rattle.flat_parts.specs.vlog_meaning.Settled.{is_input, input_names}
-use Rattle.flat_parts.specs.vlog_meaning.Names.{Name}
+use Rattle.flat_parts.specs.vlog_driver.Settled.{is_input, input_names}
+use Rattle.flat_parts.specs.vlog_driver.Names.{Name}
 use Rattle.flat_drive.specs.Marked.{inputs_after, is_listed, IsInputTable}
 
 -- ---- ports

@@ -9,7 +9,7 @@ use Rattle.flat_parts.specs.vlog_elab.Instances.{ModuleInstance}
 use Rattle.flat_parts.specs.vlog_elab.declared.instance.ModuleInstance as code
 use Rattle.flat_parts.specs.vlog_elab.Plain.{plain_instance, plain_instances}
 use Rattle.flat_parts.specs.vlog_size.Table.{Named}
-use Rattle.flat_parts.specs.vlog_meaning.Names.{Full}
+use Rattle.flat_parts.specs.vlog_driver.Names.{Full}
 use Rattle.flat_drive.specs.Reasons.{dotted, dotted_all, text_at, instance_nets, instance_memories, net_texts, memory_texts}
 
 pub in_front : (xs ys : List (List ℕ)) (k : ℕ) → k < length xs → text_at (xs ++ ys) k ≡ text_at xs k

@@ -26,7 +26,7 @@ use Rattle.flat_parts.specs.vlog_driver.Duties.{Duty, Does}
 use Rattle.flat_parts.specs.vlog_elab.declared.error.ElabError.{ElabError}
 use Rattle.flat_parts.specs.vlog_elab.declared.error.ElabError.TheVariants as e
 use Rattle.flat_parts.specs.vlog_elab.Instances.{ModuleInstance}
-use Rattle.flat_parts.specs.vlog_meaning.Names.{Full}
+use Rattle.flat_parts.specs.vlog_driver.Names.{Full}
 use Rattle.flat_parts.specs.Seats.{Seat, seats_from, seats_of}
 use Rattle.flat_parts.specs.Nets.{net_of, seat_nets, flat_nets, memories_from, seat_memories, flat_memories}
 use Rattle.flat_parts.specs.Drivers.{all_duties, all_blocks, IsBlockOf}

@@ -8,7 +8,7 @@ use Rattle.flat_parts.specs.vlog_size.Table.{Named}
 use Rattle.flat_parts.specs.net_drive.declared.findings.NetKind.{NetKind}
 use Rattle.flat_parts.specs.net_drive.declared.findings.NetKind.TheVariants.{Pin, Wire, Reg}
 use Rattle.flat_parts.specs.vlog_names.Ports.{has_reg}
-use Rattle.flat_parts.specs.vlog_meaning.Settled.{inputs_of}
+use Rattle.flat_parts.specs.vlog_driver.Settled.{inputs_of}
 use Rattle.flat_parts.specs.Seats.{Seat}
 
 -- whether a module has an input of this name

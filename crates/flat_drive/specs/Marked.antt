@@ -6,7 +6,7 @@ use Rattle.flat_parts.specs.vlog_size.declared.scope.ScopeNet.{ScopeNet}
 use Rattle.flat_parts.specs.vlog_size.Table.{Named, value_of}
 use Rattle.flat_parts.specs.net_drive.declared.findings.NetKind.{NetKind}
 use Rattle.flat_parts.specs.vlog_names.Ports.{input_after}
-use Rattle.flat_parts.specs.vlog_meaning.Names.{Name}
+use Rattle.flat_parts.specs.vlog_driver.Names.{Name}
 use Rattle.flat_drive.specs.Kinds.{has_input, kind_if}
 
 -- the names of the inputs among ports, where the port before them is an input or isn't

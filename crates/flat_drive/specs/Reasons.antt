@@ -10,7 +10,7 @@ use Rattle.flat_parts.specs.net_drive.Drive.{drive_faults}
 use Rattle.flat_parts.specs.vlog_elab.declared.error.ElabError.{ElabError}
 use Rattle.flat_parts.specs.vlog_elab.declared.error.ElabError.TheVariants as e
 use Rattle.flat_parts.specs.vlog_elab.Instances.{ModuleInstance}
-use Rattle.flat_parts.specs.vlog_meaning.Names.{Name, Full}
+use Rattle.flat_parts.specs.vlog_driver.Names.{Name, Full}
 use Rattle.flat_parts.specs.Seats.{seats_of}
 use Rattle.flat_parts.specs.Nets.{flat_nets, flat_memories}
 use Rattle.flat_drive.specs.Kinds.{flat_kinds}

@@ -6,7 +6,7 @@ ghost use Rattle.std.specs.Str.{bytes_eq};
 ghost use Rattle.flat_parts.specs.vidi_bits.Findings.{told_if};
 ghost use Rattle.vlog_tree.specs.Plain.{plain_port, plain_module};
 ghost use Rattle.flat_parts.specs.vlog_elab.Plain.{plain_instances};
-ghost use Rattle.flat_parts.specs.vlog_meaning.Names.{Name};
+ghost use Rattle.flat_parts.specs.vlog_driver.Names.{Name};
 ghost use Rattle.flat_parts.specs.Seats.{seats_of};
 ghost use Rattle.flat_parts.specs.Marks.{reg_marks};
 ghost use Rattle.flat_drive.specs.Kinds.{kind_if, flat_kinds};

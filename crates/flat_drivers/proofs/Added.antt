@@ -11,8 +11,8 @@ use Rattle.flat_parts.specs.vlog_size.Table.{Named}
 use Rattle.flat_parts.specs.vlog_scope.Scope.{after_item}
 use Rattle.net_design.specs.declared.act.Code.{Code}
 use Rattle.net_design.proofs.UpdateLaws.{from_here}
-use Rattle.flat_parts.specs.vlog_meaning.Names.{Full}
-use Rattle.flat_parts.specs.vlog_meaning.Placed.{Placed, placed}
+use Rattle.flat_parts.specs.vlog_driver.Names.{Full}
+use Rattle.flat_parts.specs.vlog_driver.Placed.{Placed, placed}
 use Rattle.flat_parts.specs.Seats.{Seat}
 use Rattle.flat_parts.specs.Drivers.{ClockedBlock, IsBlockOf}
 use Rattle.flat_parts.specs.net_code.declared.base.Base.{Base}

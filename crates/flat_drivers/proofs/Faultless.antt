@@ -15,7 +15,7 @@ use Rattle.flat_parts.specs.vlog_scope.Faults.{found, expr_faults, assign_faults
 use Rattle.flat_parts.specs.vlog_scope.Faults.{arm_faults, arms_faults, item_faults, items_faults, const_faults, width_faults}
 use Rattle.flat_parts.specs.vlog_driver.Faultless.{IsFaultless, IsFaultlessTarget, IsFaultlessStmt, AreFaultlessStmts, IsFaultlessBody}
 use Rattle.flat_parts.specs.vlog_driver.Faultless.{IsFaultlessElse, IsFaultlessArm, AreFaultlessArms}
-use Rattle.flat_parts.specs.vlog_meaning.Placed.{placed, placed_items}
+use Rattle.flat_parts.specs.vlog_driver.Placed.{placed, placed_items}
 use Rattle.flat_parts.specs.vlog_driver.Duties.{IsFaultlessAssign}
 use Rattle.flat_parts.specs.vlog_elab.Instances.{ModuleInstance}
 use Rattle.flat_parts.specs.net_code.declared.base.Base.{Base}

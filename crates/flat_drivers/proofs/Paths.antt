@@ -13,8 +13,8 @@ use Rattle.vlog_tree.specs.Tree.{InstanceOf}
 use Rattle.flat_parts.specs.vlog_scope.Scope.{words_of}
 use Rattle.flat_parts.specs.vlog_names.Entries.{Names, declared}
 use Rattle.flat_parts.specs.vlog_elab.Instances.{ModuleInstance}
-use Rattle.flat_parts.proofs.vlog_meaning_lemmas.Paths.{path_same, path_itself}
-use Rattle.flat_parts.specs.vlog_meaning.Names.{Full, same_path}
+use Rattle.flat_parts.proofs.vlog_driver_lemmas.Paths.{path_same, path_itself}
+use Rattle.flat_parts.specs.vlog_driver.Names.{Full, same_path}
 use Rattle.flat_parts.specs.vlog_driver.Sites.{Site}
 use Rattle.flat_parts.specs.vlog_driver.Duties.{Duty, conn_duties}
 use Rattle.flat_parts.specs.Seats.{Seat, base_of, seats_from, seats_of, seat_named}

@@ -17,7 +17,7 @@ use Rattle.flat_parts.specs.vlog_elab.declared.instance.ModuleInstance as code
 use Rattle.flat_parts.specs.vlog_elab.Plain.{plain_instance, plain_instances}
 use Rattle.flat_parts.specs.vlog_scope.Scope.{words_of}
 use Rattle.flat_parts.specs.vlog_elab.Instances.{ModuleInstance}
-use Rattle.flat_parts.specs.vlog_meaning.Placed.{placed, placed_items}
+use Rattle.flat_parts.specs.vlog_driver.Placed.{placed, placed_items}
 use Rattle.flat_parts.specs.vlog_driver.Duties.{Duty}
 use Rattle.flat_parts.specs.vlog_driver.Held.{item_duties}
 use Rattle.flat_parts.specs.Seats.{Seat, base_of, seats_from, seats_of, site_at}

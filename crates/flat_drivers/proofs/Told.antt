@@ -1,9 +1,9 @@
 -- First findings.
 use Rattle.std.proofs.Common.{◌≡◌, List, [], ◌++◌, map, ap, sym, subst, ◌∙◌}
 use Rattle.flat_parts.proofs.vidi_bits_lemmas.FindingLaws.{first_map, is_first_more}
-use Rattle.flat_parts.specs.vlog_latch.declared.error.BlockError.{BlockError}
-use Rattle.flat_parts.specs.vlog_latch.declared.error.BlockError.TheVariants as block
-use Rattle.flat_parts.specs.vlog_latch.Told.{block_told}
+use Rattle.flat_parts.specs.vlog_driver.declared.latches.error.BlockError.{BlockError}
+use Rattle.flat_parts.specs.vlog_driver.declared.latches.error.BlockError.TheVariants as block
+use Rattle.flat_parts.specs.vlog_driver.Told.{block_told}
 use Rattle.flat_parts.specs.vlog_elab.declared.error.ElabError.{ElabError}
 use Rattle.flat_parts.specs.vidi_bits.Findings.{IsFirst}
 use Rattle.flat_parts.specs.vlog_elab.Told.{elab_told}

@@ -4,8 +4,8 @@ use Rattle.std.specs.List.{AllZip, AllByRecursion}
 use Rattle.vlog_tree.specs.Tree.{ItemOf, AssignItem, AlwaysItem, InstanceItem}
 use Rattle.flat_parts.specs.vlog_size.declared.scope.Scope.{Scope}
 use Rattle.net_design.specs.declared.act.Code.{Code}
-use Rattle.flat_parts.specs.vlog_meaning.Names.{Full}
-use Rattle.flat_parts.specs.vlog_meaning.Placed.{Placed, names_at}
+use Rattle.flat_parts.specs.vlog_driver.Names.{Full}
+use Rattle.flat_parts.specs.vlog_driver.Placed.{Placed, names_at}
 use Rattle.flat_parts.specs.vlog_driver.Sites.{Site}
 use Rattle.flat_parts.specs.vlog_driver.Faultless.{IsFaultlessBody}
 use Rattle.flat_parts.specs.vlog_driver.Duties.{Duty, IsFaultlessAssign}

@@ -5,10 +5,10 @@ use Rattle.vlog_tree.specs.Tree.{AlwaysOf, ItemOf, WiresItem, DrivenWiresItem, R
 use Rattle.vlog_tree.specs.Tree.{InstanceItem}
 use Rattle.flat_parts.specs.vlog_size.declared.scope.Scope.{Scope}
 use Rattle.flat_parts.specs.vlog_size.Names.{Readable}
-use Rattle.flat_parts.specs.vlog_latch.declared.error.BlockError.{BlockError}
-use Rattle.flat_parts.specs.vlog_latch.declared.error.BlockError.TheVariants as block
-use Rattle.flat_parts.specs.vlog_latch.Blocks.{block_latches}
-use Rattle.flat_parts.specs.vlog_meaning.Placed.{Placed, placed_items, names_at}
+use Rattle.flat_parts.specs.vlog_driver.declared.latches.error.BlockError.{BlockError}
+use Rattle.flat_parts.specs.vlog_driver.declared.latches.error.BlockError.TheVariants as block
+use Rattle.flat_parts.specs.vlog_driver.Blocks.{block_latches}
+use Rattle.flat_parts.specs.vlog_driver.Placed.{Placed, placed_items, names_at}
 use Rattle.flat_parts.specs.vlog_elab.declared.error.ElabError.{ElabError}
 use Rattle.flat_parts.specs.vlog_elab.declared.error.ElabError.TheVariants as e
 use Rattle.flat_parts.specs.vlog_elab.Instances.{ModuleInstance}

@@ -3,7 +3,7 @@
 ghost use Rattle.std.specs.Prelude.{IsTrue, IfOk, Some, true, false, map};
 ghost use Rattle.std.specs.List.{AllByRecursion};
 ghost use Rattle.vlog_tree.specs.Plain.{plain_ident, plain_expr, plain_conn};
-ghost use Rattle.flat_parts.specs.vlog_meaning.Items.{target_of};
+ghost use Rattle.flat_parts.specs.vlog_driver.Items.{target_of};
 ghost use Rattle.flat_parts.specs.vlog_driver.Sites.{site_of};
 ghost use Rattle.flat_parts.specs.vlog_driver.Duties.{IsFaultlessForm, IsFaultlessJoin, IsFaultlessConn};
 

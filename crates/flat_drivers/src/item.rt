@@ -19,9 +19,10 @@ ghost use Rattle.flat_drivers.specs.Adding.{BlocksMore, duties_in, IsFaultlessIt
 use crate::child::{add_child, past_child};
 use crate::flat::{Flat, FlatCode};
 use flat_parts::vidi_bits::{Items, Memory, Name};
-use flat_parts::vlog_driver::{Site, add_always, add_assigns, add_wire, clocked_block, wire_fits};
+use flat_parts::vlog_driver::{
+    BlockError, Site, add_always, add_assigns, add_wire, clocked_block, wire_fits,
+};
 use flat_parts::vlog_elab::ElabError;
-use flat_parts::vlog_latch::BlockError;
 use net_design::{Code, Driver};
 use std::alloc::Global;
 use vlog_tree::{Always, Assign, Event, Item, NamedValue};

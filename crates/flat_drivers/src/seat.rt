@@ -4,7 +4,7 @@ ghost use Rattle.std.specs.Prelude.{◌≡◌, ◌<◌, OnOk, Some, map, length,
 ghost use Rattle.std.specs.List.{flat_map, AllByRecursion};
 ghost use Rattle.vlog_tree.specs.Plain.{plain_item};
 ghost use Rattle.flat_parts.specs.vlog_hierarchy.Plain.{plain_path};
-ghost use Rattle.flat_parts.specs.vlog_meaning.Placed.{placed};
+ghost use Rattle.flat_parts.specs.vlog_driver.Placed.{placed};
 ghost use Rattle.flat_parts.specs.vlog_elab.Instances as instances;
 ghost use Rattle.flat_parts.specs.vidi_bits.Findings.{Judged};
 ghost use Rattle.flat_parts.specs.vlog_elab.Told.{elab_told};

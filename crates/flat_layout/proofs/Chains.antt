@@ -10,7 +10,7 @@ use Rattle.flat_parts.specs.vlog_hierarchy.Plain.{plain_path}
 use Rattle.flat_parts.specs.vlog_elab.Instances.{ModuleInstance}
 use Rattle.flat_parts.specs.vlog_elab.declared.instance.ModuleInstance as code
 use Rattle.flat_parts.specs.vlog_elab.Plain.{plain_instance, plain_instances}
-use Rattle.flat_parts.specs.vlog_meaning.Names.{Full}
+use Rattle.flat_parts.specs.vlog_driver.Names.{Full}
 use Rattle.flat_layout.specs.Layout.{AreInstances, paths_of}
 use Rattle.flat_layout.proofs.Lists.{slice_get_left, slice_get_right}
 

@@ -30,7 +30,7 @@ use Rattle.flat_parts.specs.vlog_scope.Scope.{with_regs, with_item, with_items, 
 use Rattle.net_design.specs.Names.{net_names}
 use Rattle.flat_parts.specs.vlog_elab.Instances.{ModuleInstance, child_of, child_at, item_children, children_from, children, within, top_of, top_at}
 use Rattle.flat_parts.specs.vlog_elab.Instances.{instances}
-use Rattle.flat_parts.specs.vlog_meaning.Names.{Full}
+use Rattle.flat_parts.specs.vlog_driver.Names.{Full}
 use Rattle.flat_parts.specs.Laws.{PathsDiffer, NamesDiffer}
 use Rattle.flat_layout.proofs.Numbers.{built_names}
 use Rattle.flat_parts.specs.vlog_hierarchy.declared.nodes.TheConstants.{MOST_LEVELS}

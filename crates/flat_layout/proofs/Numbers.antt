@@ -14,7 +14,7 @@ use Rattle.net_design.specs.declared.design.Net.{Net}
 use Rattle.net_design.specs.declared.values.Values.{Values}
 use Rattle.net_design.specs.Names.{list_at, paths, net_names}
 use Rattle.flat_parts.specs.vlog_elab.Instances.{ModuleInstance}
-use Rattle.flat_parts.specs.vlog_meaning.Names.{Full, words_from}
+use Rattle.flat_parts.specs.vlog_driver.Names.{Full, words_from}
 use Rattle.flat_parts.specs.Seats.{seats_from, seats_of}
 use Rattle.flat_parts.specs.Nets.{net_of, seat_nets, flat_nets, memories_from, seat_memories, flat_memories}
 use Rattle.flat_parts.specs.Built.{IsBuilt}

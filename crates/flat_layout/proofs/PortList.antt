@@ -15,7 +15,7 @@ use Rattle.flat_parts.specs.vlog_names.Entries.{entry, no_port, port_as, port_en
 use Rattle.net_design.specs.declared.design.Port.{Port}
 use Rattle.net_design.specs.declared.design.Direction.{Direction}
 use Rattle.net_design.specs.declared.design.Direction.TheVariants.{Input}
-use Rattle.flat_parts.specs.vlog_meaning.Next.{net_width}
+use Rattle.flat_parts.specs.vlog_driver.Next.{net_width}
 use Rattle.flat_parts.specs.Nets.{direction_of, port_of}
 use Rattle.flat_layout.specs.Layout.{seen, direction_after}
 

@@ -5,16 +5,16 @@ use Rattle.std.specs.List.{flat_map}
 use Rattle.std.proofs.lemmas.List.{length-map, get_or_append_left}
 use Rattle.std.proofs.lemmas.List.Recursion.{is_sum_by}
 use Rattle.flat_layout.proofs.Counted.{own_length}
-use Rattle.flat_parts.proofs.vlog_meaning_lemmas.Words.{length-words}
+use Rattle.flat_parts.proofs.vlog_driver_lemmas.Words.{length-words}
 use Rattle.flat_parts.specs.vlog_size.declared.scope.ScopeMemory.{ScopeMemory}
 use Rattle.flat_parts.specs.vlog_size.declared.scope.ScopeNet.{ScopeNet}
 use Rattle.flat_parts.specs.vlog_size.Table.{Named}
 use Rattle.flat_parts.specs.vlog_scope.Scope.{words_of}
 use Rattle.flat_parts.specs.vlog_block.Sources.{words_before}
 use Rattle.flat_parts.specs.vlog_elab.Instances.{ModuleInstance}
-use Rattle.flat_parts.specs.vlog_meaning.Names.{Full, words_from, numbers_at}
-use Rattle.flat_parts.specs.vlog_meaning.Placed.{names_at}
-use Rattle.flat_parts.specs.vlog_meaning.Own.{word_total}
+use Rattle.flat_parts.specs.vlog_driver.Names.{Full, words_from, numbers_at}
+use Rattle.flat_parts.specs.vlog_driver.Placed.{names_at}
+use Rattle.flat_parts.specs.vlog_driver.Own.{word_total}
 use Rattle.flat_parts.specs.vlog_driver.Held.{StandsAt}
 use Rattle.flat_parts.specs.Seats.{Seat, site_at}
 use Rattle.flat_parts.specs.Laws.{numbers_of, SeatsStand}

@@ -3,7 +3,7 @@
 ghost use Rattle.std.specs.Prelude.{◌≡◌, IfOk, option_map};
 ghost use Rattle.vlog_tree.specs.Plain.{plain_head, plain_module, plain_port};
 ghost use Rattle.flat_parts.specs.vlog_size.Table.{value_of};
-ghost use Rattle.flat_parts.specs.vlog_meaning.Next as meaning;
+ghost use Rattle.flat_parts.specs.vlog_driver.Next as meaning;
 ghost use Rattle.flat_parts.specs.Nets.{flat_ports};
 ghost use Rattle.flat_layout.specs.Layout.{seen, direction_after};
 

@@ -16,9 +16,9 @@ use Rattle.net_design.proofs.UpdateLaws.{apply_both}
 use Rattle.vlog_driver.specs.net_code.Moved.{moved_target, moved_update}
 use Rattle.vlog_elab.specs.vlog_scope.Scope.{words_of}
 use Rattle.vlog_elab.specs.Instances.{ModuleInstance}
-use Rattle.vlog_driver.specs.vlog_meaning.Own.{IsLong, word_total}
-use Rattle.vlog_driver.specs.vlog_meaning.Placed.{names_at}
-use Rattle.vlog_driver.proofs.vlog_meaning_lemmas.SameUpdates.{TargetIn, AreIn}
+use Rattle.vlog_driver.specs.Own.{IsLong, word_total}
+use Rattle.vlog_driver.specs.Placed.{names_at}
+use Rattle.vlog_driver.proofs.SameUpdates.{TargetIn, AreIn}
 use Rattle.flat_parts.specs.Seats.{Seat, seats_from}
 
 -- other numbers behind those of v

@@ -3,7 +3,7 @@ use Rattle.std.proofs.Common.{◌≡◌, ℕ, ◌+◌, ◌≤◌, List, [], ◌�
 use Rattle.std.specs.List.{flat_map, AllZip, Contains}
 use Rattle.std.proofs.lemmas.List.{length-map, append-nil}
 use Rattle.std.proofs.lemmas.List.Sums.{sum_by-cons}
-use Rattle.vlog_driver.proofs.vlog_meaning_lemmas.Words.{length-words}
+use Rattle.vlog_driver.proofs.Words.{length-words}
 use Rattle.vlog_tree.specs.Tree.{EventOf, PosedgeEvent, ImplicitEvent, AlwaysOf, ItemOf, WiresItem, DrivenWiresItem}
 use Rattle.vlog_tree.specs.Tree.{RegsItem, LocalparamsItem, AssignItem, AlwaysItem, InstanceItem}
 use Rattle.vlog_elab.specs.vlog_size.declared.scope.ScopeMemory.{ScopeMemory}
@@ -20,11 +20,11 @@ use Rattle.vlog_elab.specs.vlog_scope.Scope.{words_of}
 use Rattle.vlog_driver.specs.vlog_block.Sources.{words_before}
 use Rattle.vlog_driver.specs.vlog_block.Updates.{timing_of, always_updates}
 use Rattle.vlog_elab.specs.Instances.{ModuleInstance}
-use Rattle.vlog_driver.specs.vlog_meaning.Names.{Full, numbers_at}
-use Rattle.vlog_driver.specs.vlog_meaning.Placed.{Placed, placed_items, names_at}
-use Rattle.vlog_driver.specs.vlog_meaning.Next.{event_updates, item_updates, clocked_updates}
-use Rattle.vlog_driver.proofs.vlog_meaning_lemmas.SameHolds.{updated_alike}
-use Rattle.vlog_driver.proofs.vlog_meaning_lemmas.SameUpdates.{AreIn, body_in, both_in}
+use Rattle.vlog_driver.specs.Names.{Full, numbers_at}
+use Rattle.vlog_driver.specs.Placed.{Placed, placed_items, names_at}
+use Rattle.vlog_driver.specs.Next.{event_updates, item_updates, clocked_updates}
+use Rattle.vlog_driver.proofs.SameHolds.{updated_alike}
+use Rattle.vlog_driver.proofs.SameUpdates.{AreIn, body_in, both_in}
 use Rattle.vlog_driver.specs.Sites.{numbers_from}
 use Rattle.flat_parts.specs.Seats.{Seat, seats_of, site_at}
 use Rattle.flat_parts.specs.Drivers.{ClockedBlock, IsBlockOf, event_blocks, item_blocks, placed_blocks, seat_blocks, all_blocks}

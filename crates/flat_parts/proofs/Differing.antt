@@ -19,8 +19,8 @@ use Rattle.vlog_elab.specs.vlog_size.declared.scope.Param.{Param}
 use Rattle.vlog_elab.specs.vlog_size.Names.{Readable}
 use Rattle.vlog_elab.specs.vlog_hierarchy.Outlines.{place_of}
 use Rattle.vlog_elab.specs.Instances.{ModuleInstance, child_of, child_at, item_children, children_from, children, within}
-use Rattle.vlog_driver.specs.vlog_meaning.Names.{Name, Full}
-use Rattle.vlog_driver.specs.vlog_meaning.Placed.{Placed, placed, placed_items}
+use Rattle.vlog_driver.specs.Names.{Name, Full}
+use Rattle.vlog_driver.specs.Placed.{Placed, placed, placed_items}
 use Rattle.flat_parts.proofs.Lists.{each, no_pairs, pairs_append, pairs_first}
 use Rattle.flat_parts.proofs.Lists.{pairs_rest, pairs_behind, pairs_between}
 use Rattle.flat_parts.proofs.Kids.{Kid, kid_of, instance_at}

@@ -22,7 +22,7 @@ use Rattle.net_design.specs.Names.{net_names}
 use Rattle.net_design.specs.Settled.{FitNets}
 use Rattle.net_design.specs.Last.{IsNarrow}
 use Rattle.vlog_elab.specs.Instances.{ModuleInstance}
-use Rattle.vlog_driver.specs.vlog_meaning.Names.{Full, words_from}
+use Rattle.vlog_driver.specs.Names.{Full, words_from}
 use Rattle.flat_parts.specs.Seats.{seats_from, seats_of}
 use Rattle.flat_parts.specs.Nets.{net_of, seat_nets, flat_nets}
 use Rattle.flat_parts.specs.Meaning.{values_of}

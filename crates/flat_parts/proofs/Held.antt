@@ -16,8 +16,8 @@ use Rattle.net_design.specs.declared.values.Values.{Values}
 use Rattle.net_design.specs.Names.{net_names}
 use Rattle.net_design.specs.Settled.{held}
 use Rattle.vlog_elab.specs.Instances.{ModuleInstance}
-use Rattle.vlog_driver.specs.vlog_meaning.Names.{Full}
-use Rattle.vlog_driver.specs.vlog_meaning.Settled.{is_held}
+use Rattle.vlog_driver.specs.Names.{Full}
+use Rattle.vlog_driver.specs.Settled.{is_held}
 use Rattle.flat_parts.specs.Seats.{Seat, seats_of}
 use Rattle.flat_parts.specs.Nets.{flat_nets}
 use Rattle.flat_parts.specs.Meaning.{values_of}

@@ -8,7 +8,7 @@ use Rattle.std.proofs.lemmas.List.{length-map}
 use Rattle.std.proofs.lemmas.List.FromFn.{length-enumerate_from}
 use Rattle.std.proofs.lemmas.Nat.Bits.{same_from_bits}
 use Rattle.std.proofs.lemmas.Option.{slice_get-get_or}
-use Rattle.vlog_driver.proofs.vlog_meaning_lemmas.Words.{length-words}
+use Rattle.vlog_driver.proofs.Words.{length-words}
 use Rattle.vlog_tree.specs.Tree.{ModuleOf}
 use Rattle.vlog_elab.specs.vlog_size.declared.scope.ScopeNet.{ScopeNet}
 use Rattle.vlog_elab.specs.vlog_size.declared.scope.Scope.{Scope}
@@ -20,9 +20,9 @@ use Rattle.net_design.specs.Names.{net_names}
 use Rattle.net_design.specs.Settled.{initial, word_count}
 use Rattle.vlog_elab.specs.vlog_scope.Scope.{words_of}
 use Rattle.vlog_elab.specs.Instances.{ModuleInstance, instances}
-use Rattle.vlog_driver.specs.vlog_meaning.Names.{Full, State, numbers_at}
-use Rattle.vlog_driver.specs.vlog_meaning.Settled.{is_held}
-use Rattle.vlog_driver.specs.vlog_meaning.Next.{initial_number, IsInitial}
+use Rattle.vlog_driver.specs.Names.{Full, State, numbers_at}
+use Rattle.vlog_driver.specs.Settled.{is_held}
+use Rattle.vlog_driver.specs.Next.{initial_number, IsInitial}
 use Rattle.flat_parts.specs.Seats.{Seat, seats_of}
 use Rattle.flat_parts.specs.Nets.{flat_nets}
 use Rattle.flat_parts.specs.Built.{IsBuilt}

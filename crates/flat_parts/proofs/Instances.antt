@@ -10,7 +10,7 @@ use Rattle.vlog_elab.specs.vlog_size.declared.scope.ScopeNet.{ScopeNet}
 use Rattle.vlog_elab.specs.vlog_size.declared.scope.Scope.{Scope}
 use Rattle.vlog_elab.specs.vlog_size.Table.{Named}
 use Rattle.vlog_elab.specs.Instances.{ModuleInstance}
-use Rattle.vlog_driver.specs.vlog_meaning.Names.{Full}
+use Rattle.vlog_driver.specs.Names.{Full}
 use Rattle.flat_parts.specs.Seats.{Seat, seats_from, seats_of}
 use Rattle.flat_parts.specs.Laws.{IsListed, SeatsStand, numbers_of}
 

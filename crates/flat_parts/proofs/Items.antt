@@ -7,10 +7,10 @@ use Rattle.vlog_tree.specs.Tree.{InstanceItem, ModuleOf}
 use Rattle.vlog_elab.specs.vlog_size.declared.scope.Scope.{Scope}
 use Rattle.vlog_elab.specs.vlog_scope.Scope.{readable_at, scope_of, scope_with}
 use Rattle.vlog_elab.specs.Instances.{ModuleInstance}
-use Rattle.vlog_driver.specs.vlog_meaning.Names.{Full, numbers_at}
-use Rattle.vlog_driver.specs.vlog_meaning.Placed.{Placed, placed_items, names_at}
-use Rattle.vlog_driver.specs.vlog_meaning.Instances.{IsChild, IsAt}
-use Rattle.vlog_driver.specs.vlog_meaning.Items.{ConnsHold, HoldsAt, ItemHolds}
+use Rattle.vlog_driver.specs.Names.{Full, numbers_at}
+use Rattle.vlog_driver.specs.Placed.{Placed, placed_items, names_at}
+use Rattle.vlog_driver.specs.Instances.{IsChild, IsAt}
+use Rattle.vlog_driver.specs.Items.{ConnsHold, HoldsAt, ItemHolds}
 use Rattle.vlog_driver.specs.Held.{DutyHolds, DutiesHold, IsNoInstance, StandsAt, item_duties}
 use Rattle.vlog_driver.proofs.Held.{items_are, conns_are}
 use Rattle.flat_parts.specs.Seats.{Seat, seats_of, site_at, seat_named}

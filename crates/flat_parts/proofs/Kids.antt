@@ -10,7 +10,7 @@ use Rattle.vlog_elab.specs.vlog_size.declared.scope.Scope.{Scope}
 use Rattle.vlog_elab.specs.vlog_scope.Scope.{readable_at, after_item, scope_of}
 use Rattle.vlog_elab.specs.vlog_hierarchy.Outlines.{place_of}
 use Rattle.vlog_elab.specs.Instances.{ModuleInstance, child_of, child_at, item_children, children_from}
-use Rattle.vlog_driver.specs.vlog_meaning.Placed.{Placed, placed}
+use Rattle.vlog_driver.specs.Placed.{Placed, placed}
 
 -- an instance as an item, before which the names of the first k parameters stand
 abbrev pub instance_at : ℕ → InstanceOf ℕ → Placed

@@ -24,8 +24,6 @@ pub use Rattle.vlog_elab.proofs.vidi_bits_lemmas as vidi_bits_lemmas
 pub use Rattle.vlog_driver.proofs as vlog_driver_lemmas
 pub use Rattle.vlog_elab.proofs as vlog_elab_lemmas
 pub use Rattle.vlog_elab.proofs.vlog_hierarchy_lemmas as vlog_hierarchy_lemmas
-pub use Rattle.vlog_driver.proofs.vlog_latch_lemmas as vlog_latch_lemmas
-pub use Rattle.vlog_driver.proofs.vlog_meaning_lemmas as vlog_meaning_lemmas
 pub use Rattle.vlog_elab.proofs.vlog_names_lemmas as vlog_names_lemmas
 pub use Rattle.vlog_elab.proofs.vlog_scope_lemmas as vlog_scope_lemmas
 pub use Rattle.vlog_elab.proofs.vlog_size_lemmas as vlog_size_lemmas

@@ -11,8 +11,8 @@ use Rattle.vlog_elab.specs.vlog_hierarchy.Outlines.{place_of}
 use Rattle.vlog_elab.specs.Instances.{ModuleInstance, children, within, top_of, top_at, instances}
 use Rattle.vlog_elab.specs.Reasons.{Clear}
 use Rattle.vlog_elab.proofs.Places.{there}
-use Rattle.vlog_driver.specs.vlog_meaning.Names.{Full}
-use Rattle.vlog_driver.specs.vlog_meaning.Instances.{Leads, IsAt}
+use Rattle.vlog_driver.specs.Names.{Full}
+use Rattle.vlog_driver.specs.Instances.{Leads, IsAt}
 use Rattle.flat_parts.specs.Laws.{IsTop, IsListed, InstancesAreAll, PathsDiffer, FirstIsTop}
 use Rattle.flat_parts.proofs.Lists.{in_got, no_pairs}
 use Rattle.flat_parts.proofs.Within.{Led, led, Reached, reached}

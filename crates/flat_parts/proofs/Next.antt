@@ -9,8 +9,8 @@ use Rattle.net_design.specs.Updates.{apply}
 use Rattle.net_design.specs.Settled.{clocked, next}
 use Rattle.net_design.proofs.StateLaws.{applied_long}
 use Rattle.vlog_elab.specs.Instances.{ModuleInstance, instances}
-use Rattle.vlog_driver.specs.vlog_meaning.Names.{Full, State, numbers_at}
-use Rattle.vlog_driver.specs.vlog_meaning.Next.{clocked_updates, IsNext}
+use Rattle.vlog_driver.specs.Names.{Full, State, numbers_at}
+use Rattle.vlog_driver.specs.Next.{clocked_updates, IsNext}
 use Rattle.flat_parts.specs.Seats.{seats_of}
 use Rattle.flat_parts.specs.Built.{IsBuilt}
 use Rattle.flat_parts.specs.Meaning.{values_of, state_of}

@@ -25,8 +25,8 @@ use Rattle.vlog_elab.specs.vlog_scope.Scope.{declared_in, with_net, with_port, w
 use Rattle.vlog_elab.specs.vlog_scope.Scope.{with_items, params_scope, scope_with}
 use Rattle.net_design.specs.declared.design.Direction.TheVariants.{Input, Output}
 use Rattle.net_design.specs.Settled.{same_direction, pins_of}
-use Rattle.vlog_driver.specs.vlog_meaning.Names.{Name}
-use Rattle.vlog_driver.specs.vlog_meaning.Settled.{is_input, input_names}
+use Rattle.vlog_driver.specs.Names.{Name}
+use Rattle.vlog_driver.specs.Settled.{is_input, input_names}
 use Rattle.flat_parts.specs.Nets.{port_of}
 
 abbrev pub names : {V : Type 0} → List (Named V) → List Name

@@ -23,10 +23,10 @@ use Rattle.net_design.specs.Settled as design
 use Rattle.net_design.specs.Updates.{run}
 use Rattle.vlog_elab.specs.Instances.{ModuleInstance, instances}
 use Rattle.vlog_elab.specs.Reasons.{Clear}
-use Rattle.vlog_driver.specs.vlog_meaning.Names.{Name, Full, State}
-use Rattle.vlog_driver.specs.vlog_meaning.Instances.{IsAt}
-use Rattle.vlog_driver.specs.vlog_meaning.Settled.{inputs_of, IsClock}
-use Rattle.vlog_driver.specs.vlog_meaning.Settled as meaning
+use Rattle.vlog_driver.specs.Names.{Name, Full, State}
+use Rattle.vlog_driver.specs.Instances.{IsAt}
+use Rattle.vlog_driver.specs.Settled.{inputs_of, IsClock}
+use Rattle.vlog_driver.specs.Settled as meaning
 use Rattle.vlog_driver.specs.Held.{DutiesHold}
 use Rattle.vlog_driver.proofs.Held.{drivers_do}
 use Rattle.flat_parts.specs.Seats.{seats_of}

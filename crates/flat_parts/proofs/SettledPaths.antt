@@ -10,9 +10,9 @@ use Rattle.vlog_tree.specs.Tree.{InstanceOf, ModuleOf}
 use Rattle.vlog_elab.specs.vlog_size.declared.scope.Scope.{Scope}
 use Rattle.vlog_elab.specs.Instances.{ModuleInstance}
 use Rattle.vlog_elab.specs.vlog_scope.Scope.{words_of}
-use Rattle.vlog_driver.proofs.vlog_meaning_lemmas.Paths.{path_same, path_itself}
-use Rattle.vlog_driver.specs.vlog_meaning.Names.{Full, same_path}
-use Rattle.vlog_driver.specs.vlog_meaning.Instances.{IsChild, Leads}
+use Rattle.vlog_driver.proofs.Paths.{path_same, path_itself}
+use Rattle.vlog_driver.specs.Names.{Full, same_path}
+use Rattle.vlog_driver.specs.Instances.{IsChild, Leads}
 use Rattle.flat_parts.specs.Seats.{Seat, seats_from, seats_of, seat_named}
 use Rattle.flat_parts.specs.Laws.{IsListed}
 use Rattle.flat_parts.proofs.SettledLists.{members}

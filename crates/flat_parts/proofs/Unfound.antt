@@ -26,9 +26,9 @@ use Rattle.vlog_elab.specs.Errors.{of_name, of_size}
 use Rattle.vlog_elab.specs.Instances.{ModuleInstance, instances}
 use Rattle.vlog_elab.specs.Reasons.{Clear, name_findings, kind_findings, text_findings, instance_consts, instance_widths, word_findings}
 use Rattle.vlog_elab.specs.Reasons.{instance_findings, clock_findings, late_findings, hierarchy_findings, size_findings}
-use Rattle.vlog_driver.specs.vlog_meaning.Names.{Full}
-use Rattle.vlog_driver.specs.vlog_meaning.Placed.{Placed, placed, placed_items}
-use Rattle.vlog_driver.specs.vlog_meaning.Instances.{IsChild, Leads, IsAt}
+use Rattle.vlog_driver.specs.Names.{Full}
+use Rattle.vlog_driver.specs.Placed.{Placed, placed, placed_items}
+use Rattle.vlog_driver.specs.Instances.{IsChild, Leads, IsAt}
 use Rattle.flat_parts.specs.Laws.{IsListed}
 use Rattle.flat_parts.proofs.SettledLists.{members}
 use Rattle.flat_parts.proofs.SettledPaths.{one_further}

@@ -10,9 +10,9 @@ use Rattle.vlog_elab.specs.vlog_names.Entries.{module_entry}
 use Rattle.vlog_elab.specs.vlog_names.Different.{Differ}
 use Rattle.vlog_elab.specs.vlog_hierarchy.Outlines.{place_of}
 use Rattle.vlog_elab.specs.Instances.{ModuleInstance, children, within}
-use Rattle.vlog_driver.specs.vlog_meaning.Names.{Full}
-use Rattle.vlog_driver.specs.vlog_meaning.Placed.{placed_items}
-use Rattle.vlog_driver.specs.vlog_meaning.Instances.{IsChild, Leads}
+use Rattle.vlog_driver.specs.Names.{Full}
+use Rattle.vlog_driver.specs.Placed.{placed_items}
+use Rattle.vlog_driver.specs.Instances.{IsChild, Leads}
 use Rattle.flat_parts.specs.Laws.{IsListed}
 use Rattle.flat_parts.proofs.Lists.{long_flat}
 use Rattle.flat_parts.proofs.Named.{named_at, place_is}

@@ -7,8 +7,8 @@ use Rattle.net_design.specs.declared.design.Port.{Port}
 use Rattle.net_design.specs.declared.design.Design.{Design}
 use Rattle.net_design.specs.Names.{paths}
 use Rattle.vlog_elab.specs.Instances.{ModuleInstance}
-use Rattle.vlog_driver.specs.vlog_meaning.Names.{Name}
-use Rattle.vlog_driver.specs.vlog_meaning.Settled.{IsClock}
+use Rattle.vlog_driver.specs.Names.{Name}
+use Rattle.vlog_driver.specs.Settled.{IsClock}
 use Rattle.vlog_driver.specs.Duties.{Does}
 use Rattle.flat_parts.specs.Seats.{seats_of}
 use Rattle.flat_parts.specs.Nets.{flat_nets, flat_memories, flat_ports}

@@ -6,7 +6,7 @@ use Rattle.vlog_tree.specs.Tree.{EventOf, PosedgeEvent, ImplicitEvent, AlwaysOf,
 use Rattle.vlog_tree.specs.Tree.{RegsItem, LocalparamsItem, AssignItem, AlwaysItem, InstanceItem}
 use Rattle.vlog_elab.specs.vlog_names.Entries.{declared}
 use Rattle.net_design.specs.declared.act.Code.{Code}
-use Rattle.vlog_driver.specs.vlog_meaning.Placed.{Placed, placed_items}
+use Rattle.vlog_driver.specs.Placed.{Placed, placed_items}
 use Rattle.vlog_driver.specs.Sites.{Site}
 use Rattle.vlog_driver.specs.Drivers.{IsClocked}
 use Rattle.vlog_driver.specs.Duties.{Duty, conn_duties}

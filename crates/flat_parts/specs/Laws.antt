@@ -15,10 +15,10 @@ use Rattle.net_design.specs.Names.{net_names}
 use Rattle.net_design.specs.Settled.{held, initial}
 use Rattle.vlog_elab.specs.Instances.{ModuleInstance, instances}
 use Rattle.vlog_elab.specs.Reasons.{Clear}
-use Rattle.vlog_driver.specs.vlog_meaning.Names.{Full, numbers_at}
-use Rattle.vlog_driver.specs.vlog_meaning.Instances.{IsAt}
-use Rattle.vlog_driver.specs.vlog_meaning.Settled.{is_held}
-use Rattle.vlog_driver.specs.vlog_meaning.Next.{initial_number}
+use Rattle.vlog_driver.specs.Names.{Full, numbers_at}
+use Rattle.vlog_driver.specs.Instances.{IsAt}
+use Rattle.vlog_driver.specs.Settled.{is_held}
+use Rattle.vlog_driver.specs.Next.{initial_number}
 use Rattle.vlog_driver.specs.Held.{StandsAt}
 use Rattle.flat_parts.specs.Seats.{Seat, seats_of, site_at}
 use Rattle.flat_parts.specs.Nets.{net_of, flat_nets}

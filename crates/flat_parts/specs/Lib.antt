@@ -16,8 +16,6 @@ pub use Rattle.vlog_driver.specs.vlog_block as vlog_block
 pub use Rattle.vlog_driver.specs as vlog_driver
 pub use Rattle.vlog_elab.specs as vlog_elab
 pub use Rattle.vlog_elab.specs.vlog_hierarchy as vlog_hierarchy
-pub use Rattle.vlog_driver.specs.vlog_latch as vlog_latch
-pub use Rattle.vlog_driver.specs.vlog_meaning as vlog_meaning
 pub use Rattle.vlog_elab.specs.vlog_names as vlog_names
 pub use Rattle.vlog_elab.specs.vlog_scope as vlog_scope
 pub use Rattle.vlog_elab.specs.vlog_size as vlog_size

@@ -11,10 +11,10 @@ use Rattle.net_design.specs.declared.design.Design.{Design}
 use Rattle.net_design.specs.declared.values.Values.{Values}
 use Rattle.net_design.specs.Names.{list_at, paths, net_names}
 use Rattle.net_design.specs.Settled as design
-use Rattle.vlog_driver.specs.vlog_meaning.Names.{Full, State, words_from}
-use Rattle.vlog_driver.specs.vlog_meaning.Instances.{IsAt}
-use Rattle.vlog_driver.specs.vlog_meaning.Settled as file
-use Rattle.vlog_driver.specs.vlog_meaning.Next.{IsNext, IsInitial}
+use Rattle.vlog_driver.specs.Names.{Full, State, words_from}
+use Rattle.vlog_driver.specs.Instances.{IsAt}
+use Rattle.vlog_driver.specs.Settled as file
+use Rattle.vlog_driver.specs.Next.{IsNext, IsInitial}
 
 -- the words of a memory of the design
 abbrev pub memory_words : Design → (Full → ℕ → ℕ) → DesignMemory → List ℕ

@@ -14,8 +14,8 @@ use Rattle.net_design.specs.declared.design.DesignMemory.{DesignMemory}
 use Rattle.net_design.specs.declared.design.Port.{Port}
 use Rattle.net_design.specs.declared.design.Direction.{Direction}
 use Rattle.net_design.specs.declared.design.Direction.TheVariants.{Input, Output}
-use Rattle.vlog_driver.specs.vlog_meaning.Settled.{is_input}
-use Rattle.vlog_driver.specs.vlog_meaning.Next.{net_width}
+use Rattle.vlog_driver.specs.Settled.{is_input}
+use Rattle.vlog_driver.specs.Next.{net_width}
 use Rattle.flat_parts.specs.Seats.{Seat}
 
 -- ---- nets

@@ -5,8 +5,8 @@ use Rattle.net_design.specs.declared.design.Design.{Design}
 use Rattle.net_design.specs.Settled as design
 use Rattle.vlog_elab.specs.Instances.{instances}
 use Rattle.vlog_elab.specs.Reasons.{Clear}
-use Rattle.vlog_driver.specs.vlog_meaning.Names.{Full, State}
-use Rattle.vlog_driver.specs.vlog_meaning.Next.{IsNext, IsInitial}
+use Rattle.vlog_driver.specs.Names.{Full, State}
+use Rattle.vlog_driver.specs.Next.{IsNext, IsInitial}
 use Rattle.flat_parts.specs.Built.{IsBuilt}
 use Rattle.flat_parts.specs.Meaning.{values_of, state_of}
 use Rattle.flat_parts.specs.Laws.{IsTop}

@@ -3,8 +3,8 @@
 use Rattle.std.specs.Prelude.{ℕ, ◌+◌, if◌then◌else◌, List, [], ◌∷◌, length, Option, None, Some}
 use Rattle.vlog_elab.specs.vlog_scope.Scope.{words_of}
 use Rattle.vlog_elab.specs.Instances.{ModuleInstance}
-use Rattle.vlog_driver.specs.vlog_meaning.Names.{Full, same_path}
-use Rattle.vlog_driver.specs.vlog_meaning.Placed.{names_at}
+use Rattle.vlog_driver.specs.Names.{Full, same_path}
+use Rattle.vlog_driver.specs.Placed.{names_at}
 use Rattle.vlog_driver.specs.Sites.{Site}
 use Rattle.vlog_driver.specs.net_code.declared.base.Base.{Base}
 

@@ -9,9 +9,9 @@ use Rattle.net_design.specs.declared.design.Design.{Design}
 use Rattle.net_design.specs.Settled as design
 use Rattle.vlog_elab.specs.Instances.{instances}
 use Rattle.vlog_elab.specs.Reasons.{Clear}
-use Rattle.vlog_driver.specs.vlog_meaning.Names.{Full, State}
-use Rattle.vlog_driver.specs.vlog_meaning.Instances.{IsAt}
-use Rattle.vlog_driver.specs.vlog_meaning.Settled as meaning
+use Rattle.vlog_driver.specs.Names.{Full, State}
+use Rattle.vlog_driver.specs.Instances.{IsAt}
+use Rattle.vlog_driver.specs.Settled as meaning
 use Rattle.flat_parts.specs.Built.{IsBuilt}
 use Rattle.flat_parts.specs.Meaning.{values_of, state_of, WordsBelow, AreNarrow}
 use Rattle.flat_parts.specs.Laws.{IsTop, InstancesAreAll, PathsDiffer, FirstIsTop, BuiltNumbers, SeatsStand, NetsHaveSeats, HeldAlike}

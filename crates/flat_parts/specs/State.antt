@@ -13,7 +13,7 @@ use Rattle.net_design.specs.declared.design.Driver.{Driver}
 use Rattle.net_design.specs.declared.design.Register.{Register}
 use Rattle.net_design.specs.Bits.{named}
 use Rattle.vlog_elab.specs.vlog_names.Ports.{has_reg}
-use Rattle.vlog_driver.specs.vlog_meaning.Next.{initial_number}
+use Rattle.vlog_driver.specs.Next.{initial_number}
 use Rattle.flat_parts.specs.Seats.{Seat}
 
 -- a reg: its net, its width in bits and its initial number

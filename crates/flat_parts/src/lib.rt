@@ -15,6 +15,6 @@ mod laws;
 pub use bases::bases_of;
 pub use laws::{instances_are_paths, settled_alike, state_alike};
 pub use vlog_driver;
-pub use vlog_driver::{net_code, net_drive, vlog_latch};
+pub use vlog_driver::{net_code, net_drive};
 pub use vlog_elab;
 pub use vlog_elab::{vidi_bits, vlog_hierarchy, vlog_names, vlog_scope, vlog_size};

@@ -7,7 +7,7 @@ use Rattle.flat_parts.specs.vlog_size.declared.scope.Param.{Param}
 use Rattle.flat_parts.specs.vlog_size.Table.{Named}
 use Rattle.flat_parts.specs.vlog_scope.Scope.{after_item}
 use Rattle.net_design.proofs.UpdateLaws.{from_here}
-use Rattle.flat_parts.specs.vlog_meaning.Placed.{Placed, placed}
+use Rattle.flat_parts.specs.vlog_driver.Placed.{Placed, placed}
 use Rattle.flat_registers.specs.Tables.{with_entries}
 use Rattle.flat_registers.proofs.Tables.{entries_append}
 

@@ -15,7 +15,7 @@ use Rattle.net_design.specs.declared.design.Net.{Net}
 use Rattle.net_design.specs.declared.design.Register.{Register}
 use Rattle.net_design.specs.Settled.{initial_number as register_number}
 use Rattle.flat_parts.specs.vlog_names.Ports.{has_reg}
-use Rattle.flat_parts.specs.vlog_meaning.Next.{initial_number}
+use Rattle.flat_parts.specs.vlog_driver.Next.{initial_number}
 use Rattle.flat_parts.specs.vlog_elab.Instances.{ModuleInstance}
 use Rattle.flat_parts.specs.Seats.{Seat, seats_of}
 use Rattle.flat_parts.specs.Nets.{net_of, flat_nets}

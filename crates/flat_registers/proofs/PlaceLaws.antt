@@ -10,7 +10,7 @@ use Rattle.flat_parts.specs.vlog_size.Table.{Named, value_of}
 use Rattle.flat_parts.specs.vlog_scope.Scope.{words_of}
 use Rattle.flat_parts.specs.vlog_names.Entries.{Names, declared}
 use Rattle.flat_parts.specs.vlog_names.Ports.{is_reg}
-use Rattle.flat_parts.specs.vlog_meaning.Next.{initials}
+use Rattle.flat_parts.specs.vlog_driver.Next.{initials}
 use Rattle.flat_parts.specs.vlog_elab.Instances.{ModuleInstance}
 use Rattle.flat_parts.specs.Seats.{seats_from, seats_of}
 use Rattle.flat_parts.specs.State.{regs_from, seat_regs, all_regs}

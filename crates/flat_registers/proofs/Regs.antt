@@ -16,7 +16,7 @@ use Rattle.flat_parts.specs.vlog_size.Table.{Named}
 use Rattle.net_design.specs.declared.design.Driver.{Driver}
 use Rattle.net_design.specs.declared.design.Register.{Register}
 use Rattle.flat_parts.specs.vlog_names.Ports.{has_reg}
-use Rattle.flat_parts.specs.vlog_meaning.Next.{initial_number}
+use Rattle.flat_parts.specs.vlog_driver.Next.{initial_number}
 use Rattle.flat_parts.specs.vlog_elab.Instances.{ModuleInstance}
 use Rattle.flat_parts.specs.Seats.{Seat, seats_of}
 use Rattle.flat_parts.specs.State.{RegPlace, regs_from, seat_regs, all_regs, always_writes_bit, IsRegisterOf}

@@ -15,12 +15,12 @@ use Rattle.flat_parts.specs.vlog_names.Entries.{declared}
 use Rattle.net_design.specs.declared.design.Driver.{Driver}
 use Rattle.net_design.specs.Bits.{named}
 use Rattle.flat_parts.specs.vlog_block.Written.{always_writes}
-use Rattle.flat_parts.specs.vlog_latch.Blocks.{is_there}
-use Rattle.flat_parts.proofs.vlog_latch_lemmas.There.{body_there}
+use Rattle.flat_parts.specs.vlog_driver.Blocks.{is_there}
+use Rattle.flat_parts.proofs.vlog_driver_lemmas.There.{body_there}
 use Rattle.flat_parts.specs.vlog_names.Ports.{is_output}
-use Rattle.flat_parts.specs.vlog_meaning.Placed.{Placed, placed_items, names_at}
-use Rattle.flat_parts.specs.vlog_meaning.Settled.{event_writes, item_writes}
-use Rattle.flat_parts.specs.vlog_meaning.Items.{target_of}
+use Rattle.flat_parts.specs.vlog_driver.Placed.{Placed, placed_items, names_at}
+use Rattle.flat_parts.specs.vlog_driver.Settled.{event_writes, item_writes}
+use Rattle.flat_parts.specs.vlog_driver.Items.{target_of}
 use Rattle.flat_parts.specs.vlog_driver.Sites.{Site, bits_at}
 use Rattle.flat_parts.specs.vlog_driver.Duties.{Duty, Assigns, Settles, Does, wire_duty, assign_duty, event_duties, output_duties, join_duties}
 use Rattle.flat_parts.specs.vlog_driver.Duties.{conn_duties}

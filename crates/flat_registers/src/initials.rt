@@ -5,8 +5,8 @@ ghost use Rattle.std.specs.List.{flat_map};
 ghost use Rattle.vlog_tree.specs.Tree.{PortOf, Reg1Of};
 ghost use Rattle.vlog_tree.specs.Plain.{plain_module, plain_item, plain_ident, plain_expr, plain_port, plain_reg};
 ghost use Rattle.flat_parts.specs.vlog_size.Table.{added, value_of};
-ghost use Rattle.flat_parts.specs.vlog_meaning.Placed.{Placed, placed, names_at};
-ghost use Rattle.flat_parts.specs.vlog_meaning.Next.{net_width, initial_at, port_initials, reg_initials, item_initials, initials};
+ghost use Rattle.flat_parts.specs.vlog_driver.Placed.{Placed, placed, names_at};
+ghost use Rattle.flat_parts.specs.vlog_driver.Next.{net_width, initial_at, port_initials, reg_initials, item_initials, initials};
 ghost use Rattle.flat_registers.specs.Tables.{with_entries};
 
 use flat_parts::vidi_bits::{Memory, Name, copied};

@@ -10,7 +10,7 @@ use Rattle.std.proofs.lemmas.List.{length-append, length-take-le, length-drop, g
 use Rattle.net_sim.specs.vidi_bits.Number.{IsWidth, truth, has}
 use Rattle.net_design.specs.declared.design.Direction.TheVariants.{Input}
 use Rattle.net_design.specs.declared.design.Port.{Port}
-use Rattle.shim_step.specs.vlog_meaning.Names.{Name, Full}
+use Rattle.shim_step.specs.vlog_driver.Names.{Name, Full}
 use Rattle.replay_run.specs.trace_model.declared.channel.Channel.{Channel}
 use Rattle.replay_run.specs.trace_model.declared.channel.Dir.{Dir}
 use Rattle.replay_run.specs.trace_model.declared.channel.Dir.TheVariants.{Inward, Outward}

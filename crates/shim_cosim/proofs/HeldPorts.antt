@@ -10,7 +10,7 @@ use Rattle.vlog_tree.specs.Tree.{PortOf, ModuleOf, FileOf}
 use Rattle.vlog_design.specs.vlog_size.Table.{Named, value_of}
 use Rattle.vlog_design.specs.vlog_names.Entries.{no_port, port_entries}
 use Rattle.shim_step.specs.vlog_scope.Scope.{scope_with}
-use Rattle.shim_step.specs.vlog_meaning.Names.{Name, Full}
+use Rattle.shim_step.specs.vlog_driver.Names.{Name, Full}
 use Rattle.net_design.specs.declared.design.Direction.TheVariants.{Input, Output}
 use Rattle.net_design.specs.declared.design.Port.{Port}
 use Rattle.net_design.specs.declared.design.Design.{Design}

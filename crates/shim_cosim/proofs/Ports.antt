@@ -12,8 +12,8 @@ use Rattle.vlog_design.specs.vlog_names.declared.declaration.Declaration.{Declar
 use Rattle.vlog_design.specs.vlog_names.Entries.{entry, port_as, no_port, port_entries}
 use Rattle.shim_step.specs.vlog_scope.Extents.{net_width}
 use Rattle.shim_step.specs.vlog_scope.Scope.{scope_with}
-use Rattle.shim_step.specs.vlog_meaning.Names.{Name, Full}
-use Rattle.shim_step.specs.vlog_meaning.Next as next
+use Rattle.shim_step.specs.vlog_driver.Names.{Name, Full}
+use Rattle.shim_step.specs.vlog_driver.Next as next
 use Rattle.net_design.specs.declared.design.Direction.{Direction}
 use Rattle.net_design.specs.declared.design.Direction.TheVariants.{Input, Output}
 use Rattle.net_design.specs.declared.design.Net.{Net}

@@ -6,8 +6,8 @@ use Rattle.std.specs.List.{range_with_len}
 use Rattle.std.proofs.lemmas.List.{ext_get_or}
 use Rattle.net_sim.specs.vidi_bits.Number.{truth, has}
 use Rattle.vlog_tree.specs.Tree.{ModuleOf, FileOf}
-use Rattle.shim_step.specs.vlog_meaning.Names.{Full, State}
-use Rattle.shim_step.specs.vlog_meaning.Next.{IsNext, IsInitial}
+use Rattle.shim_step.specs.vlog_driver.Names.{Full, State}
+use Rattle.shim_step.specs.vlog_driver.Next.{IsNext, IsInitial}
 use Rattle.net_design.specs.declared.design.Design.{Design}
 use Rattle.net_design.specs.declared.values.Values.{Values}
 use Rattle.net_design.specs.Lawful.{IsLawful, IsState}

@@ -7,7 +7,7 @@ use Rattle.std.proofs.lemmas.List.{map-append, length-map, length-append}
 use Rattle.std.proofs.lemmas.List.Sums.{sum_by-cons}
 use Rattle.net_sim.specs.vidi_bits.Number.{IsWidth, truth}
 use Rattle.vlog_tree.specs.Tree.{PortOf}
-use Rattle.shim_step.specs.vlog_meaning.Names.{Name, Full}
+use Rattle.shim_step.specs.vlog_driver.Names.{Name, Full}
 use Rattle.net_design.specs.declared.design.Direction.TheVariants.{Input, Output}
 use Rattle.net_design.specs.declared.design.Port.{Port}
 use Rattle.replay_run.specs.trace_model.declared.channel.Channel.{Channel}

@@ -13,9 +13,9 @@ use Rattle.vlog_tree.specs.Tree.{PortOf, ConnOf, ItemOf, PosedgeEvent, ModuleOf,
 use Rattle.vlog_design.specs.vlog_elab.Instances.{instances}
 use Rattle.shim_step.specs.vlog_scope.Scope.{scope_with}
 use Rattle.vlog_design.specs.vlog_size.declared.scope.Scope.{Scope}
-use Rattle.shim_step.specs.vlog_meaning.Names.{Name, Full, State}
-use Rattle.shim_step.specs.vlog_meaning.Placed.{placed, placed_items}
-use Rattle.shim_step.specs.vlog_meaning.Settled.{inputs_of, Joins, Waits, IsClock}
+use Rattle.shim_step.specs.vlog_driver.Names.{Name, Full, State}
+use Rattle.shim_step.specs.vlog_driver.Placed.{placed, placed_items}
+use Rattle.shim_step.specs.vlog_driver.Settled.{inputs_of, Joins, Waits, IsClock}
 use Rattle.net_design.specs.declared.design.Direction.TheVariants.{Input, Output}
 use Rattle.net_design.specs.declared.design.Port.{Port}
 use Rattle.net_design.specs.declared.design.Design.{Design}

@@ -7,8 +7,8 @@ use Rattle.std.proofs.lemmas.Bool.{ne_eqb}
 use Rattle.vlog_tree.specs.Tree.{BeginStmt, ConnOf, ItemOf, ModuleOf, FileOf}
 use Rattle.shim_step.specs.vlog_scope.Scope.{scope_with}
 use Rattle.vlog_design.specs.vlog_size.declared.scope.Scope.{Scope}
-use Rattle.shim_step.specs.vlog_meaning.Placed.{placed, placed_items}
-use Rattle.shim_step.specs.vlog_meaning.Settled.{IsClock, Waits, inputs_of}
+use Rattle.shim_step.specs.vlog_driver.Placed.{placed, placed_items}
+use Rattle.shim_step.specs.vlog_driver.Settled.{IsClock, Waits, inputs_of}
 use Rattle.net_design.specs.declared.design.Design.{Design}
 use Rattle.net_design.specs.Pins.{is_clock}
 use Rattle.replay_run.specs.trace_model.declared.channel.Channel.{Channel}

@@ -9,9 +9,9 @@ use Rattle.net_sim.specs.vidi_bits.Number.{has}
 use Rattle.net_sim.proofs.vidi_bits_lemmas.Each.{each_append}
 use Rattle.vlog_tree.specs.Tree.{PortOf, ModuleOf, FileOf}
 use Rattle.shim_step.specs.vlog_scope.Scope.{scope_with}
-use Rattle.shim_step.specs.vlog_meaning.Names.{Full, State}
-use Rattle.shim_step.specs.vlog_meaning.Next.{IsNext}
-use Rattle.shim_step.specs.vlog_meaning.Settled as meaning
+use Rattle.shim_step.specs.vlog_driver.Names.{Full, State}
+use Rattle.shim_step.specs.vlog_driver.Next.{IsNext}
+use Rattle.shim_step.specs.vlog_driver.Settled as meaning
 use Rattle.net_design.specs.declared.design.Design.{Design}
 use Rattle.net_design.specs.declared.design.Direction.{Direction}
 use Rattle.net_design.specs.declared.design.Direction.TheVariants.{Input, Output}

@@ -10,7 +10,7 @@ use Rattle.net_sim.specs.vidi_bits.Number.{truth, has}
 use Rattle.net_sim.proofs.vidi_bits_lemmas.BitLemmas.{has-above}
 use Rattle.net_design.specs.declared.design.Direction.TheVariants.{Output}
 use Rattle.net_design.specs.declared.design.Port.{Port}
-use Rattle.shim_step.specs.vlog_meaning.Names.{Full}
+use Rattle.shim_step.specs.vlog_driver.Names.{Full}
 use Rattle.replay_run.specs.trace_model.declared.channel.Channel.{Channel}
 use Rattle.replay_run.specs.trace_model.declared.channel.Dir.{Dir}
 use Rattle.replay_run.specs.trace_model.declared.channel.Dir.TheVariants.{Inward, Outward}

@@ -19,7 +19,7 @@ use Rattle.net_design.specs.declared.design.Design.{Design}
 use Rattle.net_design.specs.declared.values.Values.{Values}
 use Rattle.net_design.specs.Lawful.{IsLawful, IsState}
 use Rattle.net_design.specs.Settled.{word_count}
-use Rattle.shim_step.specs.vlog_meaning.Names.{Full, State, words_from}
+use Rattle.shim_step.specs.vlog_driver.Names.{Full, State, words_from}
 use Rattle.vlog_design.specs.flat_parts.Built.{IsBuilt}
 use Rattle.vlog_design.specs.flat_parts.Laws.{IsTop}
 use Rattle.vlog_design.specs.flat_parts.Meaning.{memory_words, values_of, state_of, AreNarrow}

@@ -5,7 +5,7 @@ use Rattle.net_design.specs.declared.design.Design.{Design}
 use Rattle.net_design.specs.declared.values.Values.{Values}
 use Rattle.net_design.specs.Pins.{outputs}
 use Rattle.net_design.specs.Settled.{IsSettled}
-use Rattle.shim_step.specs.vlog_meaning.Names.{Full, State}
+use Rattle.shim_step.specs.vlog_driver.Names.{Full, State}
 use Rattle.vlog_design.specs.flat_parts.Meaning.{state_of}
 use Rattle.replay_run.specs.trace_model.declared.row.Row.{Row}
 use Rattle.replay_run.specs.trace_model.declared.row.Offers.{Offers}

@@ -3,8 +3,8 @@ use Rattle.std.proofs.Common.{◌≡◌, ◌≢◌, ℕ, suc, ◌+◌, ◌<◌, 
 use Rattle.std.proofs.Common.{length, get_or, take, drop, refl, sym, ap, ◌∙◌, arith}
 use Rattle.std.specs.List.{AllByRecursion}
 use Rattle.shim_step.proofs.Elements.{Distinct}
-use Rattle.flat_parts.specs.vlog_meaning.Names.{Full, words_from, same_path}
-use Rattle.flat_parts.proofs.vlog_meaning_lemmas.Paths.{path_same, path_itself}
+use Rattle.flat_parts.specs.vlog_driver.Names.{Full, words_from, same_path}
+use Rattle.flat_parts.proofs.vlog_driver_lemmas.Paths.{path_same, path_itself}
 
 is_false : (b : Bool) → (b ≡ true → ⊥) → b ≡ false
 is_false true never = absurd (never refl)

@@ -13,7 +13,7 @@ use Rattle.shim_trees.specs.vlog_size.Size.{or_zero}
 use Rattle.shim_trees.specs.vlog_size.Literal.{literal_number}
 use Rattle.net_design.specs.declared.values.Values.{Values}
 use Rattle.flat_parts.specs.vlog_block.Value.{value, width_of}
-use Rattle.flat_parts.specs.vlog_meaning.Items.{AssignHolds}
+use Rattle.flat_parts.specs.vlog_driver.Items.{AssignHolds}
 use Rattle.shim_trees.specs.Pieces.{Name, ident, net, target, both, not_net, zero_of}
 use Rattle.shim_step.specs.Nets.{IsNet}
 use Rattle.shim_step.proofs.Whole.{read_width, read_number, assigned}

@@ -15,9 +15,9 @@ use Rattle.net_design.specs.declared.values.Values.{Values}
 use Rattle.net_design.specs.Updates.{apply, update}
 use Rattle.flat_parts.specs.vlog_block.Targets.{target_updates, source_updates}
 use Rattle.flat_parts.specs.vlog_block.declared.source.Source.{Source}
-use Rattle.flat_parts.specs.vlog_meaning.Names.{Full, State, numbers_at}
-use Rattle.flat_parts.specs.vlog_meaning.Placed.{Placed, placed, names_at}
-use Rattle.flat_parts.specs.vlog_meaning.Next.{IsNext, item_updates, clocked_updates}
+use Rattle.flat_parts.specs.vlog_driver.Names.{Full, State, numbers_at}
+use Rattle.flat_parts.specs.vlog_driver.Placed.{Placed, placed, names_at}
+use Rattle.flat_parts.specs.vlog_driver.Next.{IsNext, item_updates, clocked_updates}
 use Rattle.shim_trees.specs.Pieces.{Name, ident, target}
 use Rattle.shim_step.specs.Plain.{nets_of}
 use Rattle.shim_step.specs.Nets.{IsNet}

@@ -13,9 +13,9 @@ use Rattle.net_design.specs.declared.values.Values.{Values}
 use Rattle.net_design.specs.Names.{net_names}
 use Rattle.net_design.specs.Pins.{outputs}
 use Rattle.net_design.specs.Settled as design
-use Rattle.flat_parts.specs.vlog_meaning.Names.{Name, Full, State}
-use Rattle.flat_parts.specs.vlog_meaning.Next.{IsNext, IsInitial}
-use Rattle.flat_parts.specs.vlog_meaning.Settled.{IsSettled}
+use Rattle.flat_parts.specs.vlog_driver.Names.{Name, Full, State}
+use Rattle.flat_parts.specs.vlog_driver.Next.{IsNext, IsInitial}
+use Rattle.flat_parts.specs.vlog_driver.Settled.{IsSettled}
 use Rattle.flat_parts.specs.Meaning.{values_of, AreNarrow}
 use Rattle.chan_replayer.specs.trace_model.declared.channel.Channel.{Channel}
 use Rattle.chan_replayer.specs.trace_model.declared.channel.Dir.{Dir}

@@ -20,8 +20,8 @@ use Rattle.flat_parts.specs.vlog_scope.declared.extent.Extent.TheVariants.{NoRan
 use Rattle.flat_parts.specs.vlog_scope.Extents.{port_extent}
 use Rattle.flat_parts.specs.vlog_scope.Scope.{after_item}
 use Rattle.flat_parts.specs.vlog_names.Ports.{has_output, has_reg, is_output_port}
-use Rattle.flat_parts.specs.vlog_meaning.Placed.{Placed, placed, placed_items, names_at}
-use Rattle.flat_parts.specs.vlog_meaning.Settled.{is_held, item_writes}
+use Rattle.flat_parts.specs.vlog_driver.Placed.{Placed, placed, placed_items, names_at}
+use Rattle.flat_parts.specs.vlog_driver.Settled.{is_held, item_writes}
 use Rattle.shim_step.specs.Plain.{net_named, extent, port_nets, item_nets, nets_of, IsPlainItem, IsPosedge, IsClockedItem}
 use Rattle.shim_step.proofs.Elements.{Has, found, Apart, has_left, has_right}
 

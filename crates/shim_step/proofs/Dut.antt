@@ -12,11 +12,11 @@ use Rattle.flat_parts.specs.vlog_names.Entries.{no_port, port_as, port_entries, 
 use Rattle.flat_parts.specs.vlog_names.Twice.{twice_in}
 use Rattle.flat_parts.specs.vlog_scope.Scope.{scope_with}
 use Rattle.net_design.specs.declared.design.Port.{Port}
-use Rattle.flat_parts.specs.vlog_meaning.Names.{Full, State, numbers_at}
-use Rattle.flat_parts.specs.vlog_meaning.Placed.{names_at}
-use Rattle.flat_parts.specs.vlog_meaning.Instances.{IsAt}
-use Rattle.flat_parts.specs.vlog_meaning.Settled.{IsSettled}
-use Rattle.flat_parts.specs.vlog_meaning.Next.{net_width}
+use Rattle.flat_parts.specs.vlog_driver.Names.{Full, State, numbers_at}
+use Rattle.flat_parts.specs.vlog_driver.Placed.{names_at}
+use Rattle.flat_parts.specs.vlog_driver.Instances.{IsAt}
+use Rattle.flat_parts.specs.vlog_driver.Settled.{IsSettled}
+use Rattle.flat_parts.specs.vlog_driver.Next.{net_width}
 use Rattle.flat_parts.specs.Nets.{flat_ports, port_of}
 use Rattle.flat_parts.proofs.Ports.{ports_first}
 use Rattle.shim_trees.specs.Pieces.{Name, ident, net, conn}

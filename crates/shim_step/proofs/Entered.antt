@@ -17,8 +17,8 @@ use Rattle.net_design.specs.declared.design.Port.{Port}
 use Rattle.net_design.specs.declared.design.Direction.TheVariants.{Input, Output}
 use Rattle.net_design.specs.Settled.{same_direction, pins_of}
 use Rattle.net_design.specs.Pins.{input_limits}
-use Rattle.flat_parts.specs.vlog_meaning.Names.{Full, State}
-use Rattle.flat_parts.specs.vlog_meaning.Settled.{IsSettled, inputs_of}
+use Rattle.flat_parts.specs.vlog_driver.Names.{Full, State}
+use Rattle.flat_parts.specs.vlog_driver.Settled.{IsSettled, inputs_of}
 use Rattle.flat_parts.specs.Nets.{flat_ports, port_of}
 use Rattle.chan_replayer.specs.trace_model.declared.channel.Channel.{Channel}
 use Rattle.chan_replayer.specs.trace_model.declared.channel.Dir.{Dir}

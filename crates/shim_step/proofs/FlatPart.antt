@@ -1,7 +1,7 @@
 -- The part of a flat design below an instance.
 use Rattle.std.proofs.Common.{ℕ, List, ◌∷◌}
 use Rattle.vlog_tree.specs.Tree.{ModuleOf}
-use Rattle.flat_parts.specs.vlog_meaning.Names.{Name, Full}
+use Rattle.flat_parts.specs.vlog_driver.Names.{Name, Full}
 use Rattle.flat_parts.specs.Meaning.{AreNarrow}
 use Rattle.shim_step.specs.Part.{under, part, pins_below, IsPart}
 use Rattle.shim_step.specs.FlatPart.{PartSettles, PartGoesOn, PartBegins}

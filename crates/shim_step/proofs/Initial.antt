@@ -12,9 +12,9 @@ use Rattle.flat_parts.specs.vlog_size.Names.{Readable}
 use Rattle.flat_parts.specs.vlog_size.Size.{or_zero}
 use Rattle.flat_parts.specs.vlog_size.Table.{Named, value_of}
 use Rattle.flat_parts.specs.vlog_scope.Scope.{scope_with, after_item}
-use Rattle.flat_parts.specs.vlog_meaning.Placed.{Placed, placed, placed_items, names_at}
-use Rattle.flat_parts.specs.vlog_meaning.Settled.{is_held}
-use Rattle.flat_parts.specs.vlog_meaning.Next.{port_initials, reg_initials, item_initials, initials, initial_number}
+use Rattle.flat_parts.specs.vlog_driver.Placed.{Placed, placed, placed_items, names_at}
+use Rattle.flat_parts.specs.vlog_driver.Settled.{is_held}
+use Rattle.flat_parts.specs.vlog_driver.Next.{port_initials, reg_initials, item_initials, initials, initial_number}
 use Rattle.shim_step.specs.Plain.{nets_of, HasNoInit, HasNoInits}
 use Rattle.shim_step.specs.Nets.{NetsBegin}
 use Rattle.shim_step.proofs.Elements.{Found, found, contains_has}

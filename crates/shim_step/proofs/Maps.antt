@@ -6,7 +6,7 @@ use Rattle.std.proofs.lemmas.List.{length-map}
 use Rattle.std.proofs.lemmas.List.Sums.{sum_by-cons}
 use Rattle.net_design.specs.declared.design.DesignMemory.{DesignMemory}
 use Rattle.net_design.specs.Names.{net_names, list_at, paths}
-use Rattle.flat_parts.specs.vlog_meaning.Names.{Full, words_from}
+use Rattle.flat_parts.specs.vlog_driver.Names.{Full, words_from}
 use Rattle.flat_parts.specs.Meaning.{memory_words}
 use Rattle.shim_step.specs.Maps.{memory_names, ListsAreMaps}
 use Rattle.shim_step.proofs.Beside.{beside, all_beside, pieces, pieces_long, words_are}

@@ -23,8 +23,8 @@ use Rattle.net_design.specs.declared.design.DesignMemory.{DesignMemory}
 use Rattle.net_design.specs.declared.design.Design.{Design}
 use Rattle.net_design.specs.Names.{list_at}
 use Rattle.flat_parts.specs.vlog_elab.Instances.{ModuleInstance, instances}
-use Rattle.flat_parts.specs.vlog_meaning.Names.{Full}
-use Rattle.flat_parts.specs.vlog_meaning.Instances.{Leads}
+use Rattle.flat_parts.specs.vlog_driver.Names.{Full}
+use Rattle.flat_parts.specs.vlog_driver.Instances.{Leads}
 use Rattle.flat_parts.specs.Instances.{HasOtherPath}
 use Rattle.flat_parts.specs.Seats.{seats_from, seats_of}
 use Rattle.flat_parts.specs.Nets.{memories_from, seat_memories, flat_memories}

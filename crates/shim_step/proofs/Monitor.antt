@@ -18,8 +18,8 @@ use Rattle.net_design.specs.declared.values.Values.{Values}
 use Rattle.net_design.specs.Updates.{update}
 use Rattle.flat_parts.specs.vlog_block.Value.{value, width_of}
 use Rattle.flat_parts.specs.vlog_block.Targets.{target_width, target_updates}
-use Rattle.flat_parts.specs.vlog_meaning.Names.{Full, State}
-use Rattle.flat_parts.specs.vlog_meaning.Next.{IsNext, clocked_updates}
+use Rattle.flat_parts.specs.vlog_driver.Names.{Full, State}
+use Rattle.flat_parts.specs.vlog_driver.Next.{IsNext, clocked_updates}
 use Rattle.shim_trees.specs.Pieces.{Name, ident, net, not_net, both, target, each, numbered, input, output, reg, gated_content}
 use Rattle.shim_trees.specs.Monitor.{monitor, monitor_ports, monitor_items, gates, events}
 use Rattle.shim_step.specs.Plain.{IsPlain, IsPlainItem, IsClockedItem, nets_of}

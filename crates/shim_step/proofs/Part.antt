@@ -5,12 +5,12 @@ use Rattle.vlog_tree.specs.Tree.{InstanceOf, ModuleOf, ItemOf, WiresItem, Driven
 use Rattle.vlog_tree.specs.Tree.{AlwaysItem, InstanceItem}
 use Rattle.flat_parts.specs.vlog_size.declared.scope.Scope.{Scope}
 use Rattle.flat_parts.specs.vlog_scope.Scope.{scope_with}
-use Rattle.flat_parts.specs.vlog_meaning.Names.{Name, Full, State}
-use Rattle.flat_parts.specs.vlog_meaning.Placed.{Placed, placed_items}
-use Rattle.flat_parts.specs.vlog_meaning.Instances.{IsChild, Leads, IsAt}
-use Rattle.flat_parts.specs.vlog_meaning.Items.{HoldsAt, ItemHolds}
-use Rattle.flat_parts.specs.vlog_meaning.Settled.{IsSettled, IsClock}
-use Rattle.flat_parts.specs.vlog_meaning.Next.{IsNext, IsInitial}
+use Rattle.flat_parts.specs.vlog_driver.Names.{Name, Full, State}
+use Rattle.flat_parts.specs.vlog_driver.Placed.{Placed, placed_items}
+use Rattle.flat_parts.specs.vlog_driver.Instances.{IsChild, Leads, IsAt}
+use Rattle.flat_parts.specs.vlog_driver.Items.{HoldsAt, ItemHolds}
+use Rattle.flat_parts.specs.vlog_driver.Settled.{IsSettled, IsClock}
+use Rattle.flat_parts.specs.vlog_driver.Next.{IsNext, IsInitial}
 use Rattle.shim_step.specs.Part.{under, part, pins_below, Extends, HasPart, PartIsSettled, PartIsNext, PartIsInitial}
 
 module _ (file more : List (ModuleOf ℕ)) (keep : Extends file more) where

@@ -22,9 +22,9 @@ use Rattle.flat_parts.specs.vlog_scope.Extents.{extent_of, port_extent, paramete
 use Rattle.flat_parts.specs.vlog_scope.Params.{with_param, given_or, header_params, local_params, item_params, items_params}
 use Rattle.flat_parts.specs.vlog_scope.Scope.{with_ports, with_port, with_item, with_items, with_regs, with_reg, scope_with, declared_in}
 use Rattle.flat_parts.specs.vlog_scope.Scope.{params_scope}
-use Rattle.flat_parts.specs.vlog_meaning.Names.{Name, Full, numbers_at}
-use Rattle.flat_parts.specs.vlog_meaning.Placed.{names_at}
-use Rattle.flat_parts.specs.vlog_meaning.Next.{net_width}
+use Rattle.flat_parts.specs.vlog_driver.Names.{Name, Full, numbers_at}
+use Rattle.flat_parts.specs.vlog_driver.Placed.{names_at}
+use Rattle.flat_parts.specs.vlog_driver.Next.{net_width}
 use Rattle.shim_step.specs.Nets.{IsNet}
 use Rattle.shim_step.proofs.Elements.{Has, Found, found, at_member, other_name, all_members, has_map, has_flat, has_left, has_right, in_slice}
 use Rattle.shim_step.proofs.Elements.{place_some, Apart, apart_front, apart_back, apart_sides}

@@ -7,9 +7,9 @@ use Rattle.net_order.proofs.vidi_bits_lemmas.Each.{each_append}
 use Rattle.vlog_tree.specs.Tree.{PortOf, ModuleOf, FileOf}
 use Rattle.net_design.specs.declared.design.Design.{Design}
 use Rattle.net_design.specs.Settled as design
-use Rattle.flat_parts.specs.vlog_meaning.Names.{Name, Full, State}
-use Rattle.flat_parts.specs.vlog_meaning.Next.{IsNext, IsInitial}
-use Rattle.flat_parts.specs.vlog_meaning.Settled.{IsSettled}
+use Rattle.flat_parts.specs.vlog_driver.Names.{Name, Full, State}
+use Rattle.flat_parts.specs.vlog_driver.Next.{IsNext, IsInitial}
+use Rattle.flat_parts.specs.vlog_driver.Settled.{IsSettled}
 use Rattle.flat_parts.specs.Meaning.{AreNarrow}
 use Rattle.chan_replayer.specs.trace_model.declared.channel.Channel.{Channel}
 use Rattle.chan_replayer.specs.trace_model.declared.channel.Dir.{Dir}

@@ -7,9 +7,9 @@ use Rattle.net_order.specs.vidi_bits.Number.{truth}
 use Rattle.net_order.proofs.vidi_bits_lemmas.Each.{each_append}
 use Rattle.vlog_tree.specs.Tree.{PortOf, ConnOf, ItemOf, ModuleOf, FileOf}
 use Rattle.net_design.specs.declared.design.Design.{Design}
-use Rattle.flat_parts.specs.vlog_meaning.Names.{Full, State}
-use Rattle.flat_parts.specs.vlog_meaning.Next.{IsNext}
-use Rattle.flat_parts.specs.vlog_meaning.Settled.{IsSettled}
+use Rattle.flat_parts.specs.vlog_driver.Names.{Full, State}
+use Rattle.flat_parts.specs.vlog_driver.Next.{IsNext}
+use Rattle.flat_parts.specs.vlog_driver.Settled.{IsSettled}
 use Rattle.chan_replayer.specs.trace_model.declared.channel.Channel.{Channel}
 use Rattle.chan_replayer.specs.trace_model.declared.channel.Dir.{Dir}
 use Rattle.chan_replayer.specs.trace_model.declared.channel.Dir.TheVariants.{Inward, Outward}

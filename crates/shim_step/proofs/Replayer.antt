@@ -19,8 +19,8 @@ use Rattle.flat_parts.specs.vlog_names.Different.{Differ}
 use Rattle.net_design.specs.declared.act.Timing.TheVariants.{Nonblocking}
 use Rattle.flat_parts.specs.vlog_block.Value.{width_of}
 use Rattle.flat_parts.specs.vlog_block.Updates.{stmts_updates}
-use Rattle.flat_parts.specs.vlog_meaning.Names.{Full, State}
-use Rattle.flat_parts.specs.vlog_meaning.Next.{IsNext, clocked_updates}
+use Rattle.flat_parts.specs.vlog_driver.Names.{Full, State}
+use Rattle.flat_parts.specs.vlog_driver.Next.{IsNext, clocked_updates}
 use Rattle.chan_replayer.specs.trace_model.declared.channel.Channel.{Channel}
 use Rattle.chan_replayer.specs.trace_model.declared.channel.Dir.{Dir}
 use Rattle.chan_replayer.specs.trace_model.declared.channel.Dir.TheVariants.{Inward, Outward}

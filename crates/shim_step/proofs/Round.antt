@@ -21,8 +21,8 @@ use Rattle.net_design.specs.declared.design.Net.{Net}
 use Rattle.net_design.specs.declared.design.Port.{Port}
 use Rattle.net_design.specs.Names.{list_at, paths, paths_after, net_names}
 use Rattle.net_design.specs.Settled as design
-use Rattle.flat_parts.specs.vlog_meaning.Names.{Name, Full, State}
-use Rattle.flat_parts.specs.vlog_meaning.Settled.{IsSettled, IsClock, inputs_of}
+use Rattle.flat_parts.specs.vlog_driver.Names.{Name, Full, State}
+use Rattle.flat_parts.specs.vlog_driver.Settled.{IsSettled, IsClock, inputs_of}
 use Rattle.flat_parts.specs.Meaning.{values_of, state_of, AreNarrow}
 use Rattle.flat_parts.specs.Nets.{port_of, flat_ports}
 use Rattle.chan_replayer.specs.chan_map.declared.pins.Map.{Map}

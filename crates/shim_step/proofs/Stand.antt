@@ -11,11 +11,11 @@ use Rattle.shim_trees.specs.vlog_size.Names.{Readable}
 use Rattle.flat_parts.specs.vlog_scope.Extents.{net_width}
 use Rattle.flat_parts.specs.vlog_scope.Scope.{scope_with}
 use Rattle.net_design.specs.declared.values.Values.{Values}
-use Rattle.flat_parts.specs.vlog_meaning.Names.{Full, State, numbers_at}
-use Rattle.flat_parts.specs.vlog_meaning.Placed.{names_at}
-use Rattle.flat_parts.specs.vlog_meaning.Instances.{IsChild, IsAt}
-use Rattle.flat_parts.specs.vlog_meaning.Items.{HoldsAt, ConnsHold}
-use Rattle.flat_parts.specs.vlog_meaning.Settled.{IsSettled}
+use Rattle.flat_parts.specs.vlog_driver.Names.{Full, State, numbers_at}
+use Rattle.flat_parts.specs.vlog_driver.Placed.{names_at}
+use Rattle.flat_parts.specs.vlog_driver.Instances.{IsChild, IsAt}
+use Rattle.flat_parts.specs.vlog_driver.Items.{HoldsAt, ConnsHold}
+use Rattle.flat_parts.specs.vlog_driver.Settled.{IsSettled}
 use Rattle.shim_trees.specs.Pieces.{Name, ident, net, not_net, both, range_of, port, wire, reg, assign, gated_content, conn, instance, numbered}
 use Rattle.shim_step.specs.Plain.{net_named, extent, nets_of, IsPlain}
 use Rattle.shim_step.specs.Nets.{IsNet, IsJoint}

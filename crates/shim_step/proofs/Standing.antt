@@ -21,12 +21,12 @@ use Rattle.flat_parts.specs.vlog_scope.Extents.{port_extent}
 use Rattle.flat_parts.specs.vlog_scope.Scope.{scope_with, scope_of, readable_at, after_item}
 use Rattle.net_design.specs.declared.values.Values.{Values}
 use Rattle.net_design.specs.Updates.{apply}
-use Rattle.flat_parts.specs.vlog_meaning.Names.{Full, State, numbers_at}
-use Rattle.flat_parts.specs.vlog_meaning.Placed.{placed, placed_items, names_at}
-use Rattle.flat_parts.specs.vlog_meaning.Instances.{IsChild, IsAt}
-use Rattle.flat_parts.specs.vlog_meaning.Items.{ItemHolds, HoldsAt}
-use Rattle.flat_parts.specs.vlog_meaning.Settled.{IsSettled}
-use Rattle.flat_parts.specs.vlog_meaning.Next.{IsNext, clocked_updates}
+use Rattle.flat_parts.specs.vlog_driver.Names.{Full, State, numbers_at}
+use Rattle.flat_parts.specs.vlog_driver.Placed.{placed, placed_items, names_at}
+use Rattle.flat_parts.specs.vlog_driver.Instances.{IsChild, IsAt}
+use Rattle.flat_parts.specs.vlog_driver.Items.{ItemHolds, HoldsAt}
+use Rattle.flat_parts.specs.vlog_driver.Settled.{IsSettled}
+use Rattle.flat_parts.specs.vlog_driver.Next.{IsNext, clocked_updates}
 use Rattle.shim_step.specs.Plain.{net_named, extent, port_nets, item_nets, nets_of, IsPlain, IsPlainItem, IsClockedItem}
 use Rattle.shim_step.specs.Nets.{IsNet, NetsStand, RegsAreHeld}
 use Rattle.shim_step.proofs.Elements.{Has, Found, found, at_member, has_left, has_right, has_contains, contains_has, place_some, Apart, apart_from}

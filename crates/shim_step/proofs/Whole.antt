@@ -23,7 +23,7 @@ use Rattle.flat_parts.specs.vlog_block.Sources.{source_of}
 use Rattle.flat_parts.specs.vlog_block.Value.{value, width_of, source_number}
 use Rattle.flat_parts.specs.vlog_block.Targets.{target_width, source_updates}
 use Rattle.flat_parts.specs.vlog_names.Ports.{has_output}
-use Rattle.flat_parts.specs.vlog_meaning.Items.{IsAssigned, JoinHolds, ConnHolds, whole, read}
+use Rattle.flat_parts.specs.vlog_driver.Items.{IsAssigned, JoinHolds, ConnHolds, whole, read}
 use Rattle.shim_step.proofs.Elements.{at_member, contains_has}
 use Rattle.shim_step.specs.Nets.{IsNet, NetIsRead, NetIsAssigned, NetsAreJoined}
 

@@ -3,8 +3,8 @@ use Rattle.std.specs.Prelude.{◌≡◌, ℕ, List, [], ◌∷◌}
 use Rattle.vlog_tree.specs.Tree.{ModuleOf}
 use Rattle.net_design.specs.declared.design.Design.{Design}
 use Rattle.net_design.specs.Settled as design
-use Rattle.flat_parts.specs.vlog_meaning.Names.{Name, Full, State}
-use Rattle.flat_parts.specs.vlog_meaning.Settled.{IsClock}
+use Rattle.flat_parts.specs.vlog_driver.Names.{Name, Full, State}
+use Rattle.flat_parts.specs.vlog_driver.Settled.{IsClock}
 use Rattle.flat_parts.specs.Meaning.{values_of, state_of, AreNarrow, Means}
 use Rattle.shim_step.specs.Part.{under, part, pins_below, IsPart}
 

@@ -8,5 +8,5 @@ pub mod Ports
 pub mod Recording
 pub mod Replaying
 pub mod OneRow
-pub use Rattle.flat_parts.specs.vlog_meaning as vlog_meaning
+pub use Rattle.flat_parts.specs.vlog_driver as vlog_driver
 pub use Rattle.flat_parts.specs.vlog_scope as vlog_scope

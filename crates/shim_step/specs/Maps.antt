@@ -9,7 +9,7 @@ use Rattle.net_design.specs.Settled.{word_count}
 use Rattle.vlog_tree.specs.Tree.{ModuleOf, FileOf}
 use Rattle.flat_parts.specs.vlog_elab.Instances.{instances}
 use Rattle.flat_parts.specs.vlog_elab.Reasons.{Clear}
-use Rattle.flat_parts.specs.vlog_meaning.Names.{Full}
+use Rattle.flat_parts.specs.vlog_driver.Names.{Full}
 use Rattle.flat_parts.specs.Built.{IsBuilt}
 use Rattle.flat_parts.specs.Laws.{IsTop}
 use Rattle.flat_parts.specs.Meaning.{values_of}

@@ -9,12 +9,12 @@ use Rattle.flat_parts.specs.vlog_names.Ports.{has_reg}
 use Rattle.flat_parts.specs.vlog_scope.Scope.{scope_with}
 use Rattle.net_design.specs.declared.values.Values.{Values}
 use Rattle.flat_parts.specs.vlog_block.Value.{value, width_of}
-use Rattle.flat_parts.specs.vlog_meaning.Names.{Full, State, numbers_at}
-use Rattle.flat_parts.specs.vlog_meaning.Placed.{names_at}
-use Rattle.flat_parts.specs.vlog_meaning.Instances.{IsAt}
-use Rattle.flat_parts.specs.vlog_meaning.Items.{IsAssigned, ConnsHold, whole, read}
-use Rattle.flat_parts.specs.vlog_meaning.Settled.{IsSettled}
-use Rattle.flat_parts.specs.vlog_meaning.Next.{IsInitial}
+use Rattle.flat_parts.specs.vlog_driver.Names.{Full, State, numbers_at}
+use Rattle.flat_parts.specs.vlog_driver.Placed.{names_at}
+use Rattle.flat_parts.specs.vlog_driver.Instances.{IsAt}
+use Rattle.flat_parts.specs.vlog_driver.Items.{IsAssigned, ConnsHold, whole, read}
+use Rattle.flat_parts.specs.vlog_driver.Settled.{IsSettled}
+use Rattle.flat_parts.specs.vlog_driver.Next.{IsInitial}
 use Rattle.shim_step.specs.Plain.{nets_of, IsPlain, IsClockedItem, HasNoInits}
 
 -- the name is a net of w bits that has the number x in v

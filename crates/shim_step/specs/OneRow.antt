@@ -7,7 +7,7 @@ use Rattle.net_design.specs.Lawful.{IsLawful, IsState}
 use Rattle.net_design.specs.Pins.{FitPins, HasOneMap}
 use Rattle.net_design.specs.Settled as design
 use Rattle.net_order.specs.Order.{IsOrder}
-use Rattle.flat_parts.specs.vlog_meaning.Names.{Full, State}
+use Rattle.flat_parts.specs.vlog_driver.Names.{Full, State}
 use Rattle.chan_replayer.specs.trace_model.declared.row.Offers.{Offers}
 use Rattle.chan_replayer.specs.trace_model.declared.packet.TheConstants.{MOST_CYCLES}
 use Rattle.chan_replayer.specs.trace_model.declared.row.Row.{Row}

@@ -3,10 +3,10 @@ use Rattle.std.specs.Prelude.{◌≡◌, ℕ, List, [], ◌∷◌, map}
 use Rattle.std.specs.List.{Contains}
 use Rattle.vlog_tree.specs.Tree.{InstanceOf, ModuleOf}
 use Rattle.flat_parts.specs.vlog_scope.Scope.{scope_with}
-use Rattle.flat_parts.specs.vlog_meaning.Names.{Name, Full, State}
-use Rattle.flat_parts.specs.vlog_meaning.Instances.{IsChild}
-use Rattle.flat_parts.specs.vlog_meaning.Settled.{IsSettled, IsClock, inputs_of}
-use Rattle.flat_parts.specs.vlog_meaning.Next.{IsNext, IsInitial}
+use Rattle.flat_parts.specs.vlog_driver.Names.{Name, Full, State}
+use Rattle.flat_parts.specs.vlog_driver.Instances.{IsChild}
+use Rattle.flat_parts.specs.vlog_driver.Settled.{IsSettled, IsClock, inputs_of}
+use Rattle.flat_parts.specs.vlog_driver.Next.{IsNext, IsInitial}
 
 -- what a map of full names has below the instance x
 abbrev pub under : {X : Type 0} → Name → (Full → X) → Full → X

@@ -2,7 +2,7 @@
 use Rattle.std.specs.Prelude.{◌≡◌, ℕ, ◌<◌, Bool, true, false, List, [], ◌∷◌, codes, length, Some, IfSome, slice_get, slice_index}
 use Rattle.std.specs.List.{AllByRecursion}
 use Rattle.net_order.specs.vidi_bits.Number.{truth, has}
-use Rattle.flat_parts.specs.vlog_meaning.Names.{Name, Full}
+use Rattle.flat_parts.specs.vlog_driver.Names.{Name, Full}
 use Rattle.chan_replayer.specs.trace_model.declared.channel.Channel.{Channel}
 use Rattle.chan_replayer.specs.trace_model.declared.channel.Dir.{Dir}
 use Rattle.chan_replayer.specs.trace_model.declared.channel.Dir.TheVariants.{Inward, Outward}

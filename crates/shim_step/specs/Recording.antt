@@ -4,9 +4,9 @@ use Rattle.vlog_tree.specs.Tree.{ModuleOf, FileOf}
 use Rattle.net_design.specs.declared.design.Design.{Design}
 use Rattle.net_design.specs.declared.values.Values.{Values}
 use Rattle.net_design.specs.Settled.{initial}
-use Rattle.flat_parts.specs.vlog_meaning.Names.{Full, State}
-use Rattle.flat_parts.specs.vlog_meaning.Settled.{IsSettled}
-use Rattle.flat_parts.specs.vlog_meaning.Next.{IsNext, IsInitial}
+use Rattle.flat_parts.specs.vlog_driver.Names.{Full, State}
+use Rattle.flat_parts.specs.vlog_driver.Settled.{IsSettled}
+use Rattle.flat_parts.specs.vlog_driver.Next.{IsNext, IsInitial}
 use Rattle.flat_parts.specs.Laws.{IsTop}
 use Rattle.flat_parts.specs.Meaning.{state_of, AreNarrow}
 use Rattle.chan_replayer.specs.trace_model.declared.row.Offers.{Offers}

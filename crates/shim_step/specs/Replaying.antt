@@ -3,8 +3,8 @@ use Rattle.std.specs.Prelude.{◌≡◌, ℕ, ◌≤◌, Bool, true, List, [], �
 use Rattle.vlog_tree.specs.Tree.{ModuleOf, FileOf}
 use Rattle.net_design.specs.declared.design.Design.{Design}
 use Rattle.net_design.specs.Settled.{initial}
-use Rattle.flat_parts.specs.vlog_meaning.Names.{Full, State}
-use Rattle.flat_parts.specs.vlog_meaning.Next.{IsNext, IsInitial}
+use Rattle.flat_parts.specs.vlog_driver.Names.{Full, State}
+use Rattle.flat_parts.specs.vlog_driver.Next.{IsNext, IsInitial}
 use Rattle.flat_parts.specs.Laws.{IsTop}
 use Rattle.chan_replayer.specs.trace_model.declared.packet.TheConstants.{MOST_CYCLES}
 use Rattle.chan_replayer.specs.trace_model.declared.row.Row.{Row}

@@ -5,7 +5,7 @@ use Rattle.vlog_tree.specs.Tree.{ModuleOf, FileOf}
 use Rattle.flat_parts.specs.vlog_names.Twice.{twice_names}
 use Rattle.net_design.specs.declared.design.Design.{Design}
 use Rattle.net_design.specs.Lawful.{IsLawful}
-use Rattle.flat_parts.specs.vlog_meaning.Names.{Name, Full, State}
+use Rattle.flat_parts.specs.vlog_driver.Names.{Name, Full, State}
 use Rattle.flat_parts.specs.Built.{IsBuilt}
 use Rattle.flat_parts.specs.Meaning.{Means}
 use Rattle.flat_parts.specs.Laws.{IsTop}

@@ -4,9 +4,9 @@
 use crate::build::{assign_itself, if_of};
 use crate::unspelled::scope;
 use std::alloc::{AllocError, Global};
-use vlog_latch::vlog_block::{block_code, is_faultless};
-use vlog_latch::vlog_size::Scope;
-use vlog_latch::{BlockError, bind_block};
+use vlog_driver::vlog_block::{block_code, is_faultless};
+use vlog_driver::vlog_size::Scope;
+use vlog_driver::{BlockError, bind_block};
 use vlog_print::vidi_bits::Memory;
 use vlog_print::vlog_lex::{Tokens, lex};
 use vlog_print::vlog_parse::{ParseError, parse};

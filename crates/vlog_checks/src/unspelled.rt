@@ -2,7 +2,7 @@
 
 use crate::build::operand_alone;
 use std::alloc::Global;
-use vlog_latch::vlog_size::{Scope, ScopeNet, SizeError, Table, fixed, numbered, whole_view};
+use vlog_driver::vlog_size::{Scope, ScopeNet, SizeError, Table, fixed, numbered, whole_view};
 use vlog_print::vidi_bits::{Items, Memory, copied};
 use vlog_tree::{Expr, Operand};
 

@@ -2,7 +2,7 @@
 use Rattle.std.proofs.Common.{◌≡◌, ℕ, max, ◌↔◌, ◌||◌, false, List, [], ◌∷◌, Result, Ok, Err, IfOk, ap, sym}
 use Rattle.std.proofs.Common.{subst, ◌∙◌}
 use Rattle.std.proofs.Math.Bool.{or-false, and-true}
-use Rattle.vlog_latch.specs.net_code.Targets.{bit_count}
+use Rattle.net_drive.specs.net_code.Targets.{bit_count}
 use Rattle.vlog_tree.specs.Tree.{ExprOf, TargetOf}
 use Rattle.net_design.specs.declared.act.Place.{Place}
 use Rattle.net_design.specs.declared.act.Act.{Set}
@@ -15,11 +15,11 @@ use Rattle.net_design.specs.Updates.{run}
 use Rattle.net_design.specs.Bits as bits
 use Rattle.net_design.specs.Bits.{block_writes, block_adds, block_reads, HasBits}
 use Rattle.net_design.specs.Last.{HasLast, IsNarrow}
-use Rattle.vlog_latch.specs.vlog_block.Value.{value, width_of}
-use Rattle.vlog_latch.specs.vlog_block.Targets.{target_width, target_updates}
-use Rattle.vlog_latch.specs.vlog_block.Bits.{reads}
-use Rattle.vlog_latch.specs.vlog_block.Written.{target_writes, target_adds, target_reads}
-use Rattle.vlog_latch.specs.vlog_block.Naming.{target_count}
+use Rattle.vlog_block.specs.Value.{value, width_of}
+use Rattle.vlog_block.specs.Targets.{target_width, target_updates}
+use Rattle.vlog_block.specs.Bits.{reads}
+use Rattle.vlog_block.specs.Written.{target_writes, target_adds, target_reads}
+use Rattle.vlog_block.specs.Naming.{target_count}
 use Rattle.vlog_driver.specs.Sites.{Site, numbers_from, bits_at, count_at}
 use Rattle.vlog_driver.specs.Drivers.{IsOneSet, IsAssignment}
 use Rattle.vlog_driver.proofs.Namings.{set_targets}

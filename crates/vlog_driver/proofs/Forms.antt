@@ -8,7 +8,7 @@ use Rattle.vlog_tree.specs.Plain.{plain_expr, plain_exprs, plain_target, plain_t
 use Rattle.vlog_tree.specs.declared.expr.Expr.{Expr}
 use Rattle.vlog_tree.specs.declared.stmt.Target.{Target}
 use Rattle.net_design.proofs.UpdateLaws.{from_here}
-use Rattle.vlog_meaning.specs.Items.{both_parts, target_of, targets_of}
+use Rattle.vlog_driver.specs.Items.{both_parts, target_of, targets_of}
 
 -- these targets before those of what is left, where all that is left has the form of targets
 abbrev pub after : List (TargetOf ℕ) → Option (TargetsOf ℕ) → Option (TargetsOf ℕ)

@@ -1,23 +1,23 @@
 -- The drivers of an item hold exactly where the item holds.
 use Rattle.std.proofs.Common.{◌≡◌, ℕ, ◌↔◌, Bool, true, false, List, [], ◌∷◌, map, Option, Some, None, refl, subst}
 use Rattle.std.specs.List.{flat_map, AllByRecursion}
-use Rattle.vlog_latch.proofs.vidi_bits_lemmas.Each.{same_both, nothing, then_so, split}
+use Rattle.net_drive.proofs.vidi_bits_lemmas.Each.{same_both, nothing, then_so, split}
 use Rattle.vlog_tree.specs.Tree.{IdentOf, ExprOf, TargetOf, EventOf, PosedgeEvent, ImplicitEvent, AlwaysOf}
 use Rattle.vlog_tree.specs.Tree.{ConnOf}
 use Rattle.vlog_tree.specs.Tree.{ItemOf, WiresItem, DrivenWiresItem, RegsItem, LocalparamsItem, AssignItem, AlwaysItem, InstanceItem}
 use Rattle.vlog_tree.specs.Tree.{ModuleOf}
-use Rattle.vlog_latch.specs.vlog_size.declared.scope.Scope.{Scope}
-use Rattle.vlog_latch.specs.vlog_size.Table.{value_of}
-use Rattle.vlog_meaning.specs.vlog_names.Entries.{declared}
-use Rattle.vlog_meaning.specs.vlog_names.Ports.{is_output}
+use Rattle.vlog_block.specs.vlog_size.declared.scope.Scope.{Scope}
+use Rattle.vlog_block.specs.vlog_size.Table.{value_of}
+use Rattle.vlog_names.specs.Entries.{declared}
+use Rattle.vlog_names.specs.Ports.{is_output}
 use Rattle.net_design.specs.declared.design.Driver.{Driver}
 use Rattle.net_design.specs.declared.values.Values.{Values}
 use Rattle.net_design.specs.Updates.{run}
 use Rattle.net_design.specs.Last.{IsNarrow}
-use Rattle.vlog_meaning.specs.Names.{Full, numbers_at}
-use Rattle.vlog_meaning.specs.Placed.{names_at}
-use Rattle.vlog_meaning.specs.Items.{IsAssigned, AssignHolds, WireHolds, EventHolds, JoinHolds, ConnHolds, HoldsAt, target_of, whole, read}
-use Rattle.vlog_meaning.proofs.SameHolds.{assigned_alike, settled_alike}
+use Rattle.vlog_driver.specs.Names.{Full, numbers_at}
+use Rattle.vlog_driver.specs.Placed.{names_at}
+use Rattle.vlog_driver.specs.Items.{IsAssigned, AssignHolds, WireHolds, EventHolds, JoinHolds, ConnHolds, HoldsAt, target_of, whole, read}
+use Rattle.vlog_driver.proofs.SameHolds.{assigned_alike, settled_alike}
 use Rattle.vlog_driver.specs.Sites.{Site, numbers_from}
 use Rattle.vlog_driver.specs.Duties.{Duty, Assigns, Settles, Does, wire_duty, assign_duty, event_duties, output_duties}
 use Rattle.vlog_driver.specs.Duties.{join_duties, conn_duties}

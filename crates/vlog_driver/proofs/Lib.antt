@@ -1,9 +1,23 @@
+pub mod SomeBit
+pub mod OneMask
+pub mod Least
+pub mod Found
+pub mod Answered
+pub mod There
+pub mod Targets
+pub mod Means
+pub mod LatchShown
+pub mod InPlace
+pub mod SameValue
+pub mod SameUpdates
+pub mod SameHolds
+pub mod MeaningShown
+pub mod Paths
+pub mod Words
 pub mod Forms
 pub mod Placing
 pub mod Assigning
 pub mod More
 pub mod Held
 pub mod Namings
-pub use Rattle.vlog_latch.proofs.net_code_lemmas as net_code_lemmas
-pub use Rattle.vlog_latch.proofs as vlog_latch_lemmas
-pub use Rattle.vlog_meaning.proofs as vlog_meaning_lemmas
+pub use Rattle.net_drive.proofs.net_code_lemmas as net_code_lemmas

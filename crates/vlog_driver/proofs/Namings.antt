@@ -13,9 +13,9 @@ use Rattle.net_design.specs.declared.act.Act.{more_of-Guard}
 use Rattle.net_design.specs.declared.act.Code.{Code}
 use Rattle.net_design.specs.declared.rhs.Rhs.{Rhs}
 use Rattle.net_design.specs.Bits.{place_writes}
-use Rattle.vlog_latch.specs.net_code.Moved.{moved_place, moved_act, moved_guards, moved_row, moved}
-use Rattle.vlog_latch.specs.net_code.Targets.{targets, guard_row_targets, row_targets, block_targets, bit_count}
-use Rattle.vlog_latch.specs.vlog_block.Naming.{Naming, place_name, place_names, code_names}
+use Rattle.net_drive.specs.net_code.Moved.{moved_place, moved_act, moved_guards, moved_row, moved}
+use Rattle.net_drive.specs.net_code.Targets.{targets, guard_row_targets, row_targets, block_targets, bit_count}
+use Rattle.vlog_block.specs.Naming.{Naming, place_name, place_names, code_names}
 use Rattle.vlog_driver.specs.Sites.{Site, name_at, names_at_site, count_at}
 use Rattle.vlog_driver.proofs.Placing.{target_writes_placed}
 

@@ -18,9 +18,9 @@ use Rattle.net_design.specs.Bits.{BitSet, named, reads, target_reads, target_wri
 use Rattle.net_design.specs.Bits.{HasBits}
 use Rattle.net_design.specs.Last.{HasLast, IsNarrow}
 use Rattle.net_design.proofs.LastLaws.{last_updates}
-use Rattle.vlog_latch.specs.net_code.Moved.{moved_rhs, moved_place, moved_act, moved_update, moved_bits, moved, from_first}
-use Rattle.vlog_latch.proofs.net_code_lemmas.MovedValues.{value_moved, block_moved, fixed_moved}
-use Rattle.vlog_latch.proofs.net_code_lemmas.MovedBits.{named_moved, reads_moved, block_writes_moved, block_adds_moved, block_open_moved, bits_moved}
+use Rattle.net_drive.specs.net_code.Moved.{moved_rhs, moved_place, moved_act, moved_update, moved_bits, moved, from_first}
+use Rattle.net_drive.proofs.net_code_lemmas.MovedValues.{value_moved, block_moved, fixed_moved}
+use Rattle.net_drive.proofs.net_code_lemmas.MovedBits.{named_moved, reads_moved, block_writes_moved, block_adds_moved, block_open_moved, bits_moved}
 
 module _ (net word : ℕ) where
   narrow_from : (v : Values) → IsNarrow v → IsNarrow (from_first net word v)

@@ -10,13 +10,13 @@ use Rattle.net_design.specs.declared.values.Values.{Values}
 use Rattle.net_design.specs.Updates.{block_updates, run}
 use Rattle.net_design.specs.Bits.{named, block_adds, HasBits}
 use Rattle.net_design.specs.Last.{HasLast, IsNarrow}
-use Rattle.vlog_latch.specs.net_code.Moved.{moved_update}
-use Rattle.vlog_latch.specs.vlog_block.Bits.{reads}
-use Rattle.vlog_latch.specs.vlog_block.Updates.{always_updates}
-use Rattle.vlog_latch.specs.vlog_block.Written.{target_writes, target_adds, target_reads, always_writes, always_adds, always_reads}
-use Rattle.vlog_latch.specs.net_code.Targets.{block_targets, bit_count}
-use Rattle.vlog_latch.specs.vlog_block.Naming.{target_count, always_names, code_names}
-use Rattle.vlog_meaning.specs.Items.{IsAssigned}
+use Rattle.net_drive.specs.net_code.Moved.{moved_update}
+use Rattle.vlog_block.specs.Bits.{reads}
+use Rattle.vlog_block.specs.Updates.{always_updates}
+use Rattle.vlog_block.specs.Written.{target_writes, target_adds, target_reads, always_writes, always_adds, always_reads}
+use Rattle.net_drive.specs.net_code.Targets.{block_targets, bit_count}
+use Rattle.vlog_block.specs.Naming.{target_count, always_names, code_names}
+use Rattle.vlog_driver.specs.Items.{IsAssigned}
 use Rattle.vlog_driver.specs.Sites.{Site, numbers_from, bits_at, count_at, names_at_site}
 
 -- one assignment

@@ -4,12 +4,12 @@ use Rattle.std.specs.Prelude.{ℕ, Bool, true, false, List, [], ◌∷◌, ◌++
 use Rattle.std.specs.List.{AllZip}
 use Rattle.vlog_tree.specs.Tree.{IdentOf, ExprOf, TargetOf, NamedValueOf, AssignOf, EventOf, PosedgeEvent, ImplicitEvent, AlwaysOf, ConnOf}
 use Rattle.vlog_tree.specs.Lines.{target_line}
-use Rattle.vlog_latch.specs.vlog_size.Table.{value_of}
-use Rattle.vlog_meaning.specs.vlog_names.Entries.{Names}
-use Rattle.vlog_meaning.specs.vlog_names.Ports.{is_output}
+use Rattle.vlog_block.specs.vlog_size.Table.{value_of}
+use Rattle.vlog_names.specs.Entries.{Names}
+use Rattle.vlog_names.specs.Ports.{is_output}
 use Rattle.net_design.specs.declared.design.Driver.{Driver}
-use Rattle.vlog_latch.specs.vlog_block.Faultless.{IsFaultless, IsFaultlessTarget}
-use Rattle.vlog_meaning.specs.Items.{whole, read, target_of}
+use Rattle.vlog_block.specs.Faultless.{IsFaultless, IsFaultlessTarget}
+use Rattle.vlog_driver.specs.Items.{whole, read, target_of}
 use Rattle.vlog_driver.specs.Sites.{Site}
 use Rattle.vlog_driver.specs.Drivers.{IsAssignment, IsSettling}
 

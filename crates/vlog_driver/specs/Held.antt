@@ -3,17 +3,17 @@ use Rattle.std.specs.Prelude.{◌≡◌, ℕ, ◌↔◌, List, [], map}
 use Rattle.std.specs.List.{flat_map, AllZip, AllByRecursion}
 use Rattle.vlog_tree.specs.Tree.{InstanceOf, ItemOf, WiresItem, DrivenWiresItem, RegsItem, LocalparamsItem, AssignItem, AlwaysItem}
 use Rattle.vlog_tree.specs.Tree.{InstanceItem, ModuleOf}
-use Rattle.vlog_latch.specs.vlog_size.declared.scope.Scope.{Scope}
-use Rattle.vlog_meaning.specs.vlog_names.Entries.{declared}
+use Rattle.vlog_block.specs.vlog_size.declared.scope.Scope.{Scope}
+use Rattle.vlog_names.specs.Entries.{declared}
 use Rattle.net_design.specs.declared.design.Driver.{Driver}
 use Rattle.net_design.specs.declared.values.Values.{Values}
 use Rattle.net_design.specs.Updates.{run}
 use Rattle.net_design.specs.Last.{HasLast, IsNarrow}
-use Rattle.vlog_latch.specs.vlog_block.Updates.{always_updates}
-use Rattle.vlog_meaning.specs.Names.{Full, numbers_at}
-use Rattle.vlog_meaning.specs.Placed.{names_at}
-use Rattle.vlog_meaning.specs.Items.{IsAssigned, ConnsHold, HoldsAt}
-use Rattle.vlog_meaning.specs.Own.{Agree}
+use Rattle.vlog_block.specs.Updates.{always_updates}
+use Rattle.vlog_driver.specs.Names.{Full, numbers_at}
+use Rattle.vlog_driver.specs.Placed.{names_at}
+use Rattle.vlog_driver.specs.Items.{IsAssigned, ConnsHold, HoldsAt}
+use Rattle.vlog_driver.specs.Own.{Agree}
 use Rattle.vlog_driver.specs.Sites.{Site, numbers_from}
 use Rattle.vlog_driver.specs.Duties.{Duty, Assigns, Settles, Does, wire_duty, assign_duty, always_duties, conn_duties}
 

@@ -1,12 +1,12 @@
 -- Where the code of an instance stands in the flat design.
 use Rattle.std.specs.Prelude.{ℕ, ◌+◌, ◌-◌, nat_le, if◌then◌else◌, List, map}
-use Rattle.vlog_latch.specs.vlog_size.Names.{Readable}
+use Rattle.vlog_block.specs.vlog_size.Names.{Readable}
 use Rattle.net_design.specs.declared.values.Values.{Values}
 use Rattle.net_design.specs.Bits.{BitSet}
-use Rattle.vlog_latch.specs.net_code.declared.base.Base.{Base}
-use Rattle.vlog_latch.specs.net_code.Moved.{from_first, moved_bits}
-use Rattle.vlog_latch.specs.vlog_block.Sources.{names_of}
-use Rattle.vlog_latch.specs.vlog_block.Naming.{Naming, NamesNet, NamesRoom}
+use Rattle.net_drive.specs.net_code.declared.base.Base.{Base}
+use Rattle.net_drive.specs.net_code.Moved.{from_first, moved_bits}
+use Rattle.vlog_block.specs.Sources.{names_of}
+use Rattle.vlog_block.specs.Naming.{Naming, NamesNet, NamesRoom}
 use Rattle.vlog_driver.specs.declared.site.Site as code
 
 -- what an instance's expressions read, and where it stands

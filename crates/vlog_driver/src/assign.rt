@@ -6,7 +6,7 @@ ghost use Rattle.vlog_tree.specs.Plain.{plain_expr, plain_target, plain_assign};
 ghost use Rattle.net_design.specs.declared.act.Act.{Set};
 ghost use Rattle.net_design.specs.declared.act.Timing.TheVariants as timing;
 ghost use Rattle.net_design.specs.Bits.{HasBits};
-ghost use Rattle.vlog_latch.specs.vlog_block.Faultless.{IsFaultless, IsFaultlessTarget};
+ghost use Rattle.vlog_block.specs.Faultless.{IsFaultless, IsFaultlessTarget};
 ghost use Rattle.vlog_driver.specs.Sites.{site_of};
 ghost use Rattle.vlog_driver.specs.Drivers.{IsAssignment};
 ghost use Rattle.vlog_driver.specs.Duties.{Duty, DoMore, Does, assign_duty, IsFaultlessAssign};
@@ -14,9 +14,9 @@ ghost use Rattle.vlog_driver.specs.Duties.{Duty, DoMore, Does, assign_duty, IsFa
 use crate::placed::{own_target_width, own_width, placed_target, placed_value};
 use crate::site::Site;
 use net_design::{Act, Driver, Lhs, Rhs, Timing};
+use net_drive::net_code::{code_of, is_sized_block};
+use net_drive::vidi_bits::{Items, Memory};
 use std::alloc::Global;
-use vlog_latch::net_code::{code_of, is_sized_block};
-use vlog_latch::vidi_bits::{Items, Memory};
 use vlog_tree::{Assign, Expr, Target, target_line};
 
 /// A driver that is one assignment.

@@ -3,22 +3,22 @@
 ghost use Rattle.std.specs.Prelude.{◌≡◌, [], ◌∷◌, IfOk, OnOk};
 ghost use Rattle.vlog_tree.specs.Plain.{plain_always};
 ghost use Rattle.net_design.specs.declared.act.Timing.TheVariants.{Blocking, Nonblocking};
-ghost use Rattle.vlog_latch.specs.vlog_block.Faultless.{IsFaultlessBody};
-ghost use Rattle.vlog_latch.specs.vlog_block.Updates.{timing_of};
-ghost use Rattle.vlog_latch.specs.vidi_bits.Findings.{Judged};
-ghost use Rattle.vlog_latch.specs.Told.{block_told};
-ghost use Rattle.vlog_latch.specs.Blocks.{block_latches};
+ghost use Rattle.vlog_block.specs.Faultless.{IsFaultlessBody};
+ghost use Rattle.vlog_block.specs.Updates.{timing_of};
+ghost use Rattle.net_drive.specs.vidi_bits.Findings.{Judged};
+ghost use Rattle.vlog_driver.specs.Told.{block_told};
+ghost use Rattle.vlog_driver.specs.Blocks.{block_latches};
 ghost use Rattle.vlog_driver.specs.Sites.{site_of};
 ghost use Rattle.vlog_driver.specs.Drivers.{IsSettling, IsClocked};
 ghost use Rattle.vlog_driver.specs.Duties.{DoMore, always_duties};
 
 use crate::assign::push_driver;
+use crate::latches::BlockError;
 use crate::placed::placed_block;
 use crate::site::Site;
 use net_design::{Code, Driver};
+use net_drive::vidi_bits::{Items, Memory};
 use std::alloc::Global;
-use vlog_latch::BlockError;
-use vlog_latch::vidi_bits::{Items, Memory};
 use vlog_tree::{Always, Event};
 
 /// The driver that an `always @*` is, on the line of `always`.

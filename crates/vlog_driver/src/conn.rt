@@ -3,8 +3,8 @@
 ghost use Rattle.std.specs.Prelude.{OnOk, map};
 ghost use Rattle.std.specs.List.{AllByRecursion, flat_map};
 ghost use Rattle.vlog_tree.specs.Plain.{plain_expr, plain_conn};
-ghost use Rattle.vlog_latch.specs.vlog_block.Faultless.{IsFaultless};
-ghost use Rattle.vlog_meaning.specs.Items.{read, target_of};
+ghost use Rattle.vlog_block.specs.Faultless.{IsFaultless};
+ghost use Rattle.vlog_driver.specs.Items.{read, target_of};
 ghost use Rattle.vlog_driver.specs.Sites.{site_of};
 ghost use Rattle.vlog_driver.specs.Duties.{DoMore, output_duties, conn_duties, IsFaultlessForm, IsFaultlessConn};
 
@@ -12,9 +12,9 @@ use crate::copy::target_form;
 use crate::site::Site;
 use crate::whole::{add_input, add_output};
 use net_design::Driver;
+use net_drive::vidi_bits::{Items, Memory};
 use std::alloc::Global;
-use vlog_latch::vidi_bits::{Items, Memory};
-use vlog_meaning::vlog_names::{Declarations, is_output};
+use vlog_names::{Declarations, is_output};
 use vlog_tree::{Conn, Expr};
 
 /// Adds the driver of the target that gets a child's output.

@@ -4,11 +4,11 @@ ghost use Rattle.std.specs.Prelude.{◌≡◌, IfOk, OnOk, IfSome, option_map, m
 ghost use Rattle.vlog_tree.specs.Plain.{plain_expr, plain_exprs, plain_prim, plain_ref, plain_sel, plain_unary, plain_target};
 ghost use Rattle.vlog_tree.specs.Plain.{plain_targets, plain_ident, plain_number, plain_index, plain_last};
 ghost use Rattle.vlog_tree.specs.declared.expr.Ref.{back-Ref-index, back-Ref-sel};
-ghost use Rattle.vlog_meaning.specs.Items.{target_of, target_of_prim, targets_of};
+ghost use Rattle.vlog_driver.specs.Items.{target_of, target_of_prim, targets_of};
 
+use net_drive::vidi_bits::{Items, Memory, copied};
 use std::alloc::Global;
 use std::boxed::Box;
-use vlog_latch::vidi_bits::{Items, Memory, copied};
 use vlog_tree::{
     Expr, Exprs, Ident, Number, Operand, Ref, Sel, Target, Targets, Unary, concat, concat_target,
     repeat, see_concat, see_repeat,

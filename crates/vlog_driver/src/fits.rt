@@ -2,16 +2,16 @@
 
 ghost use Rattle.std.specs.Prelude.{IsTrue, IfOk};
 ghost use Rattle.vlog_tree.specs.Plain.{plain_ident, plain_expr, plain_target, plain_named};
-ghost use Rattle.vlog_latch.specs.vlog_block.Faultless.{IsFaultless, IsFaultlessTarget};
-ghost use Rattle.vlog_meaning.specs.Items.{whole, read};
+ghost use Rattle.vlog_block.specs.Faultless.{IsFaultless, IsFaultlessTarget};
+ghost use Rattle.vlog_driver.specs.Items.{whole, read};
 ghost use Rattle.vlog_driver.specs.Sites.{site_of};
 ghost use Rattle.vlog_driver.specs.Duties.{IsFaultlessWire};
 
 use crate::site::Site;
 use crate::whole::{whole_read, whole_target};
+use net_drive::vidi_bits::Memory;
 use std::alloc::Global;
-use vlog_latch::vidi_bits::Memory;
-use vlog_latch::vlog_size::{target_width, width};
+use vlog_block::vlog_size::{target_width, width};
 use vlog_tree::{Expr, Ident, NamedValue, Target};
 
 /// Whether nothing is found in an expression of an instance; it is so where E4, E5 and E6 find nothing.

@@ -1,7 +1,7 @@
 //! Expressions, targets and blocks as code of the flat design.
 
 ghost use Rattle.std.specs.Prelude.{◌≡◌, ℕ, ◌≤◌, ◌↔◌, [], ◌∷◌, IfOk, map};
-ghost use Rattle.vlog_latch.specs.net_code.Targets.{bit_count};
+ghost use Rattle.net_drive.specs.net_code.Targets.{bit_count};
 ghost use Rattle.vlog_tree.specs.Plain.{plain_expr, plain_target, plain_always};
 ghost use Rattle.net_design.specs.declared.act.Act.{Set};
 ghost use Rattle.net_design.specs.declared.act.Timing.{Timing};
@@ -13,29 +13,29 @@ ghost use Rattle.net_design.specs.Bits.{named, block_adds, HasBits};
 ghost use Rattle.net_design.specs.Updates.{block_updates, run};
 ghost use Rattle.net_design.specs.Last.{HasLast, IsNarrow};
 ghost use Rattle.net_design.specs.declared.act.Timing.TheVariants.{Blocking};
-ghost use Rattle.vlog_latch.specs.net_code.Moved.{moved_update};
-ghost use Rattle.vlog_latch.specs.vlog_block.Value.{value, width_of};
-ghost use Rattle.vlog_latch.specs.vlog_block.Targets as targets;
-ghost use Rattle.vlog_latch.specs.vlog_block.Bits.{reads};
-ghost use Rattle.vlog_latch.specs.vlog_block.Updates.{timing_of, body_updates};
-ghost use Rattle.vlog_latch.specs.vlog_block.Written.{target_writes, target_adds, target_reads, always_writes, always_adds, always_reads};
-ghost use Rattle.vlog_latch.specs.vlog_block.Faultless.{IsFaultless, IsFaultlessTarget, IsFaultlessBody};
-ghost use Rattle.vlog_latch.specs.vlog_block.Naming.{target_count, always_names, code_names};
-ghost use Rattle.vlog_latch.specs.vidi_bits.Findings.{Judged};
-ghost use Rattle.vlog_latch.specs.Told.{block_told};
-ghost use Rattle.vlog_latch.specs.Blocks.{block_latches};
+ghost use Rattle.net_drive.specs.net_code.Moved.{moved_update};
+ghost use Rattle.vlog_block.specs.Value.{value, width_of};
+ghost use Rattle.vlog_block.specs.Targets as targets;
+ghost use Rattle.vlog_block.specs.Bits.{reads};
+ghost use Rattle.vlog_block.specs.Updates.{timing_of, body_updates};
+ghost use Rattle.vlog_block.specs.Written.{target_writes, target_adds, target_reads, always_writes, always_adds, always_reads};
+ghost use Rattle.vlog_block.specs.Faultless.{IsFaultless, IsFaultlessTarget, IsFaultlessBody};
+ghost use Rattle.vlog_block.specs.Naming.{target_count, always_names, code_names};
+ghost use Rattle.net_drive.specs.vidi_bits.Findings.{Judged};
+ghost use Rattle.vlog_driver.specs.Told.{block_told};
+ghost use Rattle.vlog_driver.specs.Blocks.{block_latches};
 ghost use Rattle.vlog_driver.specs.Sites.{site_of, numbers_from, bits_at, count_at, names_at_site};
 
+use crate::latches::{BlockError, bind_block};
 use crate::site::Site;
 use net_design::{Code, Lhs, Rhs};
-use std::alloc::Global;
-use vlog_latch::net_code::{
+use net_drive::net_code::{
     code_is_near, expression_is_near, move_code, move_expression, move_target, target_is_near,
 };
-use vlog_latch::vidi_bits::Memory;
-use vlog_latch::vlog_block::{bind_expr, bind_target};
-use vlog_latch::vlog_size::{target_width, width};
-use vlog_latch::{BlockError, bind_block};
+use net_drive::vidi_bits::Memory;
+use std::alloc::Global;
+use vlog_block::vlog_size::{target_width, width};
+use vlog_block::{bind_expr, bind_target};
 use vlog_tree::{Always, Expr, Target};
 
 /// The width of an expression in which nothing is found.

@@ -1,7 +1,7 @@
 //! Where the code of an instance stands.
 
-use vlog_latch::net_code::Base;
-use vlog_latch::vlog_size::Scope;
+use net_drive::net_code::Base;
+use vlog_block::vlog_size::Scope;
 
 /// An instance of a module: its scope, in which the parameters are declared that stand before the item in question, and where it stands
 /// in the flat design.

@@ -3,16 +3,16 @@
 ghost use Rattle.std.specs.Prelude.{◌≡◌, [], ◌∷◌, Some, IfOk, OnOk, map};
 ghost use Rattle.std.specs.List.{AllByRecursion};
 ghost use Rattle.vlog_tree.specs.Plain.{plain_ident, plain_expr, plain_target, plain_named, plain_conn};
-ghost use Rattle.vlog_latch.specs.vlog_block.Faultless.{IsFaultless, IsFaultlessTarget};
-ghost use Rattle.vlog_meaning.specs.Items.{whole, read, target_of};
+ghost use Rattle.vlog_block.specs.Faultless.{IsFaultless, IsFaultlessTarget};
+ghost use Rattle.vlog_driver.specs.Items.{whole, read, target_of};
 ghost use Rattle.vlog_driver.specs.Sites.{site_of};
 ghost use Rattle.vlog_driver.specs.Duties.{DoMore, wire_duty, IsFaultlessWire, input_duties, output_duties};
 
 use crate::assign::{assignment, push_driver};
 use crate::site::Site;
 use net_design::Driver;
+use net_drive::vidi_bits::{Items, Memory, copied};
 use std::alloc::Global;
-use vlog_latch::vidi_bits::{Items, Memory, copied};
 use vlog_tree::{Conn, Expr, Ident, NamedValue, Operand, Ref, Target, Unary};
 
 /// A whole net as a target.

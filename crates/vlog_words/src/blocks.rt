@@ -8,8 +8,8 @@ use net_reference::after_block;
 use report_text::vidi_io::{Shelf, Text};
 use report_text::{Draft, Page, print_number};
 use std::alloc::Global;
-use vlog_latch::bind_block;
-use vlog_latch::vlog_block::{block_code, is_faultless};
+use vlog_driver::bind_block;
+use vlog_driver::vlog_block::{block_code, is_faultless};
 use vlog_tree::{Always, Event, File, Item};
 
 /// What a word asks for of a block.

@@ -10,8 +10,8 @@ use net_reference::value_of;
 use report_text::vidi_io::Text;
 use report_text::{Draft, Page, print_number};
 use std::alloc::Global;
-use vlog_latch::vlog_block::bind_expr;
-use vlog_latch::vlog_size::{
+use vlog_driver::vlog_block::bind_expr;
+use vlog_driver::vlog_size::{
     Const, Facts, Numbered, Scope, assigned_number, constant, facts_of, fixed, numbered,
     target_facts, target_width, whole_view, width,
 };

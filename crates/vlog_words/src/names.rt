@@ -7,7 +7,7 @@ use net_design::Values;
 use report_text::vidi_io::Shelf;
 use report_text::vidi_lines::Line;
 use std::alloc::Global;
-use vlog_latch::vlog_size::{Const, Param, Scope, ScopeMemory, ScopeNet, Table};
+use vlog_driver::vlog_size::{Const, Param, Scope, ScopeMemory, ScopeNet, Table};
 use vlog_print::vidi_bits::{Items, Name, copied};
 
 /// The most words of a memory.

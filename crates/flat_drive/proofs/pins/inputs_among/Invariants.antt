@@ -2,7 +2,7 @@ use Rattle.std.proofs.Common.{◌≡◌, ◌||◌, true, map, drop}
 use Rattle.std.specs.List.{list_any}
 use Rattle.std.specs.Str.{bytes_eq}
 use Rattle.vlog_tree.specs.Plain.{plain_port}
-use Rattle.flat_parts.specs.vlog_meaning.Names.{Name}
+use Rattle.flat_parts.specs.vlog_driver.Names.{Name}
 use Rattle.flat_drive.specs.Marked.{inputs_after, is_listed}
 use Rattle.flat_drive.proofs.pins.inputs_among.Given as goal
 

@@ -4,7 +4,7 @@ use Rattle.std.specs.List.{list_any}
 use Rattle.std.specs.Str.{bytes_eq}
 use Rattle.vlog_tree.specs.Plain.{plain_port, plain_module}
 use Rattle.vlog_tree.specs.declared.module.Port.{Port}
-use Rattle.flat_parts.specs.vlog_meaning.Names.{Name}
+use Rattle.flat_parts.specs.vlog_driver.Names.{Name}
 use Rattle.flat_drive.specs.Marked.{IsInputTable, inputs_after, is_listed}
 use Rattle.flat_drive.proofs.Inputs.{table_right}
 use Rattle.flat_drive.proofs.pins.inputs_of.Goals as goal

@@ -4,7 +4,7 @@ use Rattle.vlog_tree.specs.Plain.{plain_item}
 use Rattle.flat_parts.specs.vlog_hierarchy.Plain.{plain_path}
 use Rattle.flat_parts.specs.vlog_size.declared.scope.Scope.{Scope}
 use Rattle.flat_parts.specs.vlog_scope.Scope.{after_item}
-use Rattle.flat_parts.specs.vlog_meaning.Placed.{Placed, placed}
+use Rattle.flat_parts.specs.vlog_driver.Placed.{Placed, placed}
 use Rattle.flat_parts.specs.vlog_driver.Duties.{Does, DoMore}
 use Rattle.flat_parts.specs.Drivers.{IsBlockOf}
 use Rattle.flat_drivers.specs.Latches.{placed_latches}

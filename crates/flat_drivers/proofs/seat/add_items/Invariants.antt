@@ -2,7 +2,7 @@ use Rattle.std.proofs.Common.{◌≡◌, map, drop}
 use Rattle.std.specs.List.{flat_map, AllByRecursion}
 use Rattle.vlog_tree.specs.Plain.{plain_item}
 use Rattle.flat_parts.specs.vlog_hierarchy.Plain.{plain_path}
-use Rattle.flat_parts.specs.vlog_meaning.Placed.{placed}
+use Rattle.flat_parts.specs.vlog_driver.Placed.{placed}
 use Rattle.flat_parts.specs.vlog_driver.Duties.{Does}
 use Rattle.flat_parts.specs.Drivers.{IsBlockOf}
 use Rattle.flat_drivers.specs.Latches.{placed_latches}

@@ -1,8 +1,8 @@
 use Rattle.std.proofs.Common.{◌≡◌, drop, map}
 use Rattle.std.specs.List.{flat_map}
 use Rattle.vlog_tree.specs.Plain.{plain_item}
-use Rattle.flat_parts.specs.vlog_meaning.Placed.{Placed, placed, names_at}
-use Rattle.flat_parts.specs.vlog_meaning.Next.{item_initials}
+use Rattle.flat_parts.specs.vlog_driver.Placed.{Placed, placed, names_at}
+use Rattle.flat_parts.specs.vlog_driver.Next.{item_initials}
 use Rattle.flat_registers.specs.Tables.{with_entries}
 use Rattle.flat_registers.proofs.initials.add_items.Given as goal
 

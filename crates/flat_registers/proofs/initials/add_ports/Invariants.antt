@@ -2,8 +2,8 @@ use Rattle.std.proofs.Common.{◌≡◌, ℕ, drop, map}
 use Rattle.std.specs.List.{flat_map}
 use Rattle.vlog_tree.specs.Tree.{PortOf}
 use Rattle.vlog_tree.specs.Plain.{plain_port}
-use Rattle.flat_parts.specs.vlog_meaning.Placed.{names_at}
-use Rattle.flat_parts.specs.vlog_meaning.Next.{port_initials}
+use Rattle.flat_parts.specs.vlog_driver.Placed.{names_at}
+use Rattle.flat_parts.specs.vlog_driver.Next.{port_initials}
 use Rattle.flat_registers.specs.Tables.{with_entries}
 use Rattle.flat_registers.proofs.initials.add_ports.Given as goal
 

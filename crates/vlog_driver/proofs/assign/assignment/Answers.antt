@@ -1,7 +1,7 @@
 use Rattle.std.proofs.Common.{max, ap, ◌∙◌}
 use Rattle.vlog_tree.specs.Plain.{plain_expr, plain_target}
-use Rattle.vlog_latch.specs.vlog_block.Sources.{names_of}
-use Rattle.vlog_latch.specs.vlog_block.Targets.{target_width}
+use Rattle.vlog_block.specs.Sources.{names_of}
+use Rattle.vlog_block.specs.Targets.{target_width}
 use Rattle.vlog_driver.specs.Sites.{site_of}
 use Rattle.vlog_driver.proofs.Assigning.{assignment_result}
 use Rattle.vlog_driver.proofs.assign.assignment.Goals as goal

@@ -3,7 +3,7 @@ use Rattle.vlog_tree.specs.Plain.{plain_always}
 use Rattle.net_design.specs.Updates.{run}
 use Rattle.net_design.specs.Bits.{HasBits}
 use Rattle.net_design.specs.Last.{HasLast}
-use Rattle.vlog_latch.specs.vlog_block.Updates.{body_updates}
+use Rattle.vlog_block.specs.Updates.{body_updates}
 use Rattle.vlog_driver.specs.Sites.{site_of, numbers_from}
 use Rattle.vlog_driver.proofs.block.always_driver.Goals as goal
 

@@ -1,6 +1,6 @@
 use Rattle.std.proofs.Common.{◌≡◌, map, drop}
 use Rattle.vlog_tree.specs.Plain.{plain_exprs, plain_target}
-use Rattle.vlog_meaning.specs.Items.{targets_of}
+use Rattle.vlog_driver.specs.Items.{targets_of}
 use Rattle.vlog_driver.proofs.Forms.{after}
 use Rattle.vlog_driver.proofs.copy.+forms.Given as goal
 

@@ -1,8 +1,8 @@
 use Rattle.vlog_tree.specs.Plain.{plain_always}
-use Rattle.vlog_latch.specs.vlog_block.Sources.{names_of}
-use Rattle.vlog_latch.specs.vlog_block.Updates.{timing_of, body_updates}
-use Rattle.vlog_latch.specs.vlog_block.Written.{always_writes, always_adds, always_reads}
-use Rattle.vlog_latch.specs.vlog_block.Naming.{always_names}
+use Rattle.vlog_block.specs.Sources.{names_of}
+use Rattle.vlog_block.specs.Updates.{timing_of, body_updates}
+use Rattle.vlog_block.specs.Written.{always_writes, always_adds, always_reads}
+use Rattle.vlog_block.specs.Naming.{always_names}
 use Rattle.vlog_driver.specs.Sites.{site_of}
 use Rattle.vlog_driver.proofs.Namings.{names_placed}
 use Rattle.vlog_driver.proofs.Placing.{code_updates, code_holds, code_writes, code_adds, code_reads, code_bits}

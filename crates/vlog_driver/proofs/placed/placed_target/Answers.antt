@@ -1,8 +1,8 @@
 use Rattle.vlog_tree.specs.Plain.{plain_target}
-use Rattle.vlog_latch.specs.vlog_block.Sources.{names_of}
-use Rattle.vlog_latch.specs.vlog_block.Targets.{target_updates}
-use Rattle.vlog_latch.specs.vlog_block.Written.{target_writes, target_adds, target_reads}
-use Rattle.vlog_latch.specs.vlog_block.Naming.{target_count}
+use Rattle.vlog_block.specs.Sources.{names_of}
+use Rattle.vlog_block.specs.Targets.{target_updates}
+use Rattle.vlog_block.specs.Written.{target_writes, target_adds, target_reads}
+use Rattle.vlog_block.specs.Naming.{target_count}
 use Rattle.vlog_driver.specs.Sites.{site_of}
 use Rattle.vlog_driver.proofs.Namings.{count_placed}
 use Rattle.vlog_driver.proofs.Placing.{set_holds, target_writes_placed, target_adds_placed, target_reads_placed}

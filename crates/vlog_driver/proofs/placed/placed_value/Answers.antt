@@ -1,7 +1,7 @@
 use Rattle.vlog_tree.specs.Plain.{plain_expr}
-use Rattle.vlog_latch.specs.vlog_block.Sources.{names_of}
-use Rattle.vlog_latch.specs.vlog_block.Value.{value}
-use Rattle.vlog_latch.specs.vlog_block.Bits.{reads}
+use Rattle.vlog_block.specs.Sources.{names_of}
+use Rattle.vlog_block.specs.Value.{value}
+use Rattle.vlog_block.specs.Bits.{reads}
 use Rattle.vlog_driver.proofs.Placing.{value_placed, reads_placed}
 use Rattle.vlog_driver.proofs.placed.placed_value.Goals as goal
 

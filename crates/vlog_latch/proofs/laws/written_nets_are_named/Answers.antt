@@ -1,5 +1,0 @@
-use Rattle.vlog_latch.proofs.Targets.{body_named}
-use Rattle.vlog_latch.proofs.laws.written_nets_are_named.Goals as goal
-
-pub returns : goal.returns
-returns c = λ r a m k h. body_named r m k a.body h

@@ -1,9 +1,0 @@
--- What an error tells beside the list of all findings.
-use Rattle.std.specs.Prelude.{Option, None, Some}
-use Rattle.vlog_latch.specs.declared.error.BlockError.{BlockError}
-use Rattle.vlog_latch.specs.declared.error.BlockError.TheVariants as e
-
--- the finding; want of memory is none
-abbrev pub block_told : BlockError → Option BlockError
-block_told e.Memory = None
-block_told error = Some error
