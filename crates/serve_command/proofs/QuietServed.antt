@@ -5,17 +5,17 @@ use Rattle.axi_memory.specs.axi_burst.declared.axi.Axi.{Axi}
 use Rattle.axi_memory.specs.trace_model.declared.channel.Channel.{Channel}
 use Rattle.axi_memory.specs.trace_model.vidi_bits.Findings.{first}
 use Rattle.axi_memory.specs.Lack.{lacks}
-use Rattle.bench_run.specs.chan_map.declared.pins.Map.{Map}
-use Rattle.vidi_recorder.specs.vidi_io.Shelf.{Files}
-use Rattle.vidi_bench.specs.report_text.declared.reason.Word.TheVariants as words
-use Rattle.vidi_bench.specs.vidi_answer.declared.status.Status.{Status}
-use Rattle.vidi_bench.specs.vidi_answer.declared.status.Status.TheVariants.{WriteFault}
-use Rattle.vidi_bench.specs.Design.{text_limit}
-use Rattle.vidi_bench.specs.Reading.{Reading}
-use Rattle.vidi_bench.specs.Steps.{Ending}
-use Rattle.vidi_bench.proofs.Chain.{Implies}
-use Rattle.vidi_bench.proofs.Quiet.{Mute, mute-reading, mute-refusal, mute-step, quiet-reading}
-use Rattle.vidi_bench.proofs.QuietTexts.{mute-wiring}
+use Rattle.run_commands.specs.bench_run.chan_map.declared.pins.Map.{Map}
+use Rattle.run_commands.specs.vidi_recorder.vidi_io.Shelf.{Files}
+use Rattle.run_commands.specs.vidi_bench.report_text.declared.reason.Word.TheVariants as words
+use Rattle.run_commands.specs.vidi_bench.vidi_answer.declared.status.Status.{Status}
+use Rattle.run_commands.specs.vidi_bench.vidi_answer.declared.status.Status.TheVariants.{WriteFault}
+use Rattle.run_commands.specs.vidi_bench.Design.{text_limit}
+use Rattle.run_commands.specs.vidi_bench.Reading.{Reading}
+use Rattle.run_commands.specs.vidi_bench.Steps.{Ending}
+use Rattle.run_commands.proofs.vidi_bench_lemmas.Chain.{Implies}
+use Rattle.run_commands.proofs.vidi_bench_lemmas.Quiet.{Mute, mute-reading, mute-refusal, mute-step, quiet-reading}
+use Rattle.run_commands.proofs.vidi_bench_lemmas.QuietTexts.{mute-wiring}
 use Rattle.run_commands.specs.Records.{RefusedRoom}
 use Rattle.run_commands.proofs.QuietTexts.{mute-recorded, mute-room}
 use Rattle.trace_commands.proofs.QuietBursts.{mute-porting}

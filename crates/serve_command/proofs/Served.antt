@@ -11,20 +11,20 @@ use Rattle.axi_memory.specs.Stands.{ports_of, served}
 use Rattle.axi_memory.proofs.Bound.{are-served}
 use Rattle.axi_memory.proofs.Lasting.{memory-is-lasting}
 use Rattle.net_design.specs.declared.design.Design.{Design}
-use Rattle.bench_run.specs.chan_map.declared.pins.Map.{Map}
-use Rattle.bench_run.specs.env_script.declared.stalls.Stalls.{Stalls}
-use Rattle.vidi_recorder.specs.declared.error.Outcome.{Outcome}
-use Rattle.vidi_recorder.specs.declared.error.RecordError.{RecordError}
-use Rattle.vidi_recorder.specs.declared.error.RecordError.TheVariants as errors
-use Rattle.vidi_recorder.specs.vidi_io.Shelf.{Files}
-use Rattle.vidi_recorder.specs.vidi_io.Writing.{IsKept}
-use Rattle.vidi_bench.specs.declared.device.Device.{Device}
-use Rattle.vidi_bench.specs.vidi_answer.declared.answer.Answer.{Answer}
-use Rattle.vidi_bench.specs.vidi_answer.declared.answer.Ended.{Ended}
-use Rattle.vidi_bench.specs.vidi_answer.declared.answer.Ended.TheVariants as ends
-use Rattle.vidi_bench.specs.vidi_answer.declared.status.Status.{Status}
-use Rattle.vidi_bench.specs.AnswerText.{text_of}
-use Rattle.vidi_bench.specs.Ended.{IsStopped, Owes}
+use Rattle.run_commands.specs.bench_run.chan_map.declared.pins.Map.{Map}
+use Rattle.run_commands.specs.bench_run.env_script.declared.stalls.Stalls.{Stalls}
+use Rattle.run_commands.specs.vidi_recorder.declared.error.Outcome.{Outcome}
+use Rattle.run_commands.specs.vidi_recorder.declared.error.RecordError.{RecordError}
+use Rattle.run_commands.specs.vidi_recorder.declared.error.RecordError.TheVariants as errors
+use Rattle.run_commands.specs.vidi_recorder.vidi_io.Shelf.{Files}
+use Rattle.run_commands.specs.vidi_recorder.vidi_io.Writing.{IsKept}
+use Rattle.run_commands.specs.vidi_bench.declared.device.Device.{Device}
+use Rattle.run_commands.specs.vidi_bench.vidi_answer.declared.answer.Answer.{Answer}
+use Rattle.run_commands.specs.vidi_bench.vidi_answer.declared.answer.Ended.{Ended}
+use Rattle.run_commands.specs.vidi_bench.vidi_answer.declared.answer.Ended.TheVariants as ends
+use Rattle.run_commands.specs.vidi_bench.vidi_answer.declared.status.Status.{Status}
+use Rattle.run_commands.specs.vidi_bench.AnswerText.{text_of}
+use Rattle.run_commands.specs.vidi_bench.Ended.{IsStopped, Owes}
 use Rattle.run_commands.specs.Recorded.{FileFails, IsOutcome}
 use Rattle.run_commands.proofs.Recorded.{run-knowing, short-knowing, told-recorded}
 use Rattle.serve_command.specs.Serves.{memory_course, served_course, CutsServed, IsPort, IsServing}

@@ -1,8 +1,8 @@
 -- The steps of four files, and what comes of them.
 use Rattle.std.proofs.Common.{ℕ, List, Option, inl, inr}
-use Rattle.vidi_recorder.specs.vidi_io.Shelf.{Files}
-use Rattle.vidi_bench.specs.Steps.{Ending, Never}
-use Rattle.vidi_bench.proofs.Chain.{Implies}
+use Rattle.run_commands.specs.vidi_recorder.vidi_io.Shelf.{Files}
+use Rattle.run_commands.specs.vidi_bench.Steps.{Ending, Never}
+use Rattle.run_commands.proofs.vidi_bench_lemmas.Chain.{Implies}
 use Rattle.serve_command.specs.Serves.{ReadServed}
 
 -- files that are not all read end the command, whatever comes of their texts

@@ -7,11 +7,11 @@ use Rattle.axi_memory.specs.declared.reason.Lack.TheVariants as lacks_of
 use Rattle.axi_memory.specs.trace_model.declared.channel.Channel.{Channel}
 use Rattle.axi_memory.specs.trace_model.vidi_bits.Findings.{first}
 use Rattle.axi_memory.specs.Lack.{lacks}
-use Rattle.vidi_bench.specs.report_text.declared.reason.Word.TheVariants as words
-use Rattle.vidi_bench.specs.report_text.declared.reason.Reason.{Reason}
-use Rattle.vidi_bench.specs.report_text.declared.reason.Reason.TheVariants.{Serve}
-use Rattle.vidi_bench.specs.report_text.declared.reason.axi.Lack.TheVariants as told
-use Rattle.vidi_bench.specs.Steps.{Ending, IsRefusalFor}
+use Rattle.run_commands.specs.vidi_bench.report_text.declared.reason.Word.TheVariants as words
+use Rattle.run_commands.specs.vidi_bench.report_text.declared.reason.Reason.{Reason}
+use Rattle.run_commands.specs.vidi_bench.report_text.declared.reason.Reason.TheVariants.{Serve}
+use Rattle.run_commands.specs.vidi_bench.report_text.declared.reason.axi.Lack.TheVariants as told
+use Rattle.run_commands.specs.vidi_bench.Steps.{Ending, IsRefusalFor}
 
 -- `Serve`
 abbrev pub lack_reason : Lack → Reason

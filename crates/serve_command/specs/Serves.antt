@@ -9,24 +9,24 @@ use Rattle.axi_memory.specs.trace_model.declared.channel.Channel.{Channel}
 use Rattle.axi_memory.specs.Memory.{memory_offer}
 use Rattle.axi_memory.specs.Stands.{ports_of, served}
 use Rattle.net_design.specs.declared.design.Design.{Design}
-use Rattle.bench_run.specs.chan_map.declared.pins.Map.{Map}
+use Rattle.run_commands.specs.bench_run.chan_map.declared.pins.Map.{Map}
 use Rattle.run_commands.specs.env_script.declared.stalls.Stalls.{Stalls}
 use Rattle.run_commands.specs.env_script.Reasons.{read_lines}
 use Rattle.run_commands.specs.env_script.Stalls.{ReadsStalls}
-use Rattle.vidi_recorder.specs.declared.error.Outcome.{Outcome}
-use Rattle.vidi_recorder.specs.declared.error.RecordError.{RecordError}
-use Rattle.vidi_recorder.specs.declared.error.RecordError.TheVariants as errors
-use Rattle.vidi_recorder.specs.room_ledger.Reservation.{least}
-use Rattle.vidi_recorder.specs.vidi_io.Shelf.{Files}
-use Rattle.vidi_recorder.specs.vidi_io.Writing.{IsKept}
-use Rattle.vidi_recorder.specs.Course.{Course, course, sizes_of}
-use Rattle.vidi_bench.specs.report_text.declared.reason.Word.TheVariants as words
-use Rattle.vidi_bench.specs.vidi_answer.declared.status.Status.{Status}
-use Rattle.vidi_bench.specs.declared.device.Device.{Device}
-use Rattle.vidi_bench.specs.Design.{text_limit}
-use Rattle.vidi_bench.specs.Devices.{IsDevice, Wiring}
-use Rattle.vidi_bench.specs.Reading.{IsRead, Reading}
-use Rattle.vidi_bench.specs.Steps.{Ending, Step}
+use Rattle.run_commands.specs.vidi_recorder.declared.error.Outcome.{Outcome}
+use Rattle.run_commands.specs.vidi_recorder.declared.error.RecordError.{RecordError}
+use Rattle.run_commands.specs.vidi_recorder.declared.error.RecordError.TheVariants as errors
+use Rattle.run_commands.specs.vidi_recorder.room_ledger.Reservation.{least}
+use Rattle.run_commands.specs.vidi_recorder.vidi_io.Shelf.{Files}
+use Rattle.run_commands.specs.vidi_recorder.vidi_io.Writing.{IsKept}
+use Rattle.run_commands.specs.vidi_recorder.Course.{Course, course, sizes_of}
+use Rattle.run_commands.specs.vidi_bench.report_text.declared.reason.Word.TheVariants as words
+use Rattle.run_commands.specs.vidi_bench.vidi_answer.declared.status.Status.{Status}
+use Rattle.run_commands.specs.vidi_bench.declared.device.Device.{Device}
+use Rattle.run_commands.specs.vidi_bench.Design.{text_limit}
+use Rattle.run_commands.specs.vidi_bench.Devices.{IsDevice, Wiring}
+use Rattle.run_commands.specs.vidi_bench.Reading.{IsRead, Reading}
+use Rattle.run_commands.specs.vidi_bench.Steps.{Ending, Step}
 use Rattle.run_commands.specs.Recorded.{FileEnds}
 use Rattle.run_commands.specs.Records.{IsCutShort, RecordsRun, RefusedRoom}
 use Rattle.trace_commands.specs.Bursts.{Porting}

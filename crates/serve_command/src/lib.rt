@@ -5,4 +5,6 @@ mod planning;
 mod serving;
 
 pub use axi_memory;
+pub use run_commands;
 pub use serving::serve;
+pub use trace_commands;

@@ -2,34 +2,34 @@
 
 ghost use Rattle.std.specs.Prelude.{◌≡◌, ◌≤◌, false, Ok, IfOk, IfErr, length};
 ghost use Rattle.axi_memory.specs.trace_model.Channel.{IsTable};
-ghost use Rattle.bench_run.specs.env_script.Reasons.{read_lines};
-ghost use Rattle.bench_run.specs.env_script.Stalls.{ReadsStalls};
-ghost use Rattle.vidi_recorder.specs.room_ledger.Ledger.{empty};
-ghost use Rattle.vidi_recorder.specs.vidi_io.Cause.{Rose};
-ghost use Rattle.vidi_recorder.specs.vidi_io.Shelf.{Later};
-ghost use Rattle.vidi_recorder.specs.Course.{sizes_of};
-ghost use Rattle.vidi_bench.specs.Design.{text_limit};
-ghost use Rattle.vidi_bench.specs.Devices.{IsRunnable};
-ghost use Rattle.vidi_bench.specs.Ended.{EndsWith};
-ghost use Rattle.vidi_bench.specs.Reading.{IsRead};
-ghost use Rattle.vidi_bench.specs.Steps.{Never};
+ghost use Rattle.run_commands.specs.bench_run.env_script.Reasons.{read_lines};
+ghost use Rattle.run_commands.specs.bench_run.env_script.Stalls.{ReadsStalls};
+ghost use Rattle.run_commands.specs.vidi_recorder.room_ledger.Ledger.{empty};
+ghost use Rattle.run_commands.specs.vidi_recorder.vidi_io.Cause.{Rose};
+ghost use Rattle.run_commands.specs.vidi_recorder.vidi_io.Shelf.{Later};
+ghost use Rattle.run_commands.specs.vidi_recorder.Course.{sizes_of};
+ghost use Rattle.run_commands.specs.vidi_bench.Design.{text_limit};
+ghost use Rattle.run_commands.specs.vidi_bench.Devices.{IsRunnable};
+ghost use Rattle.run_commands.specs.vidi_bench.Ended.{EndsWith};
+ghost use Rattle.run_commands.specs.vidi_bench.Reading.{IsRead};
+ghost use Rattle.run_commands.specs.vidi_bench.Steps.{Never};
 ghost use Rattle.serve_command.specs.Lacking.{lack_reason, IsLacking, IsWhole};
 ghost use Rattle.serve_command.specs.Serves.{need, AreServing, AreWithin, IsPort, IsPortOf, IsServing};
 ghost use Rattle.serve_command.specs.Serves.{IsUnserved, ReadServed, RefusedServed, RefusedTexts};
 
 use axi_memory::axi_burst::Axi;
 use axi_memory::{Lack, lack};
-use bench_run::env_script::Stalls;
-use bench_run::trace_model::Channels;
-use bench_run::vidi_bits::Bytes;
+use run_commands::bench_run::env_script::Stalls;
+use run_commands::bench_run::trace_model::Channels;
+use run_commands::bench_run::vidi_bits::Bytes;
 use run_commands::store_of;
-use std::alloc::Global;
-use trace_commands::axi_over;
-use vidi_bench::{
+use run_commands::vidi_bench::{
     Device, Ended, Reason, TEXT_LIMIT, Word, device_of, read_file, refused, report_text,
 };
-use vidi_recorder::room_ledger::Room;
-use vidi_recorder::vidi_io::Shelf;
+use run_commands::vidi_recorder::room_ledger::Room;
+use run_commands::vidi_recorder::vidi_io::Shelf;
+use std::alloc::Global;
+use trace_commands::axi_over;
 
 /// The texts of a design, a map, an AXI file and a plan of stalls.
 #[derive(Drop)]

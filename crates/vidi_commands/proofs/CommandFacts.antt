@@ -1,18 +1,18 @@
 -- What is known of each command: one list.
 use Rattle.vidi_commands.specs.Command.{Command, Dump, Check, Run, Record, Replay, Serve, Compare, Salvage, Migrate, Bursts, Move, Wrap, Sample}
 use Rattle.vidi_commands.specs.Answer.{Does, StopsIn}
-use Rattle.trace_commands.specs.Bursts as grouping
-use Rattle.trace_commands.specs.Moves.{IsMovedOf, IsUnmoved}
-use Rattle.trace_commands.specs.Migrating.{IsOldTraceOf, IsUnmigrated}
-use Rattle.trace_commands.specs.Said.{migrated_line, moved_line, salvaged_line}
-use Rattle.trace_commands.specs.Traces.{Compares, Dumps, IsUnsaved, IsWhole}
+use Rattle.serve_command.specs.trace_commands.Bursts as grouping
+use Rattle.serve_command.specs.trace_commands.Moves.{IsMovedOf, IsUnmoved}
+use Rattle.serve_command.specs.trace_commands.Migrating.{IsOldTraceOf, IsUnmigrated}
+use Rattle.serve_command.specs.trace_commands.Said.{migrated_line, moved_line, salvaged_line}
+use Rattle.serve_command.specs.trace_commands.Traces.{Compares, Dumps, IsUnsaved, IsWhole}
 use Rattle.sample_command.specs.run_commands.Checks.{Checks}
 use Rattle.sample_command.specs.run_commands.Runs.{Runs}
 use Rattle.sample_command.specs.Samples.{Samples}
-use Rattle.trace_commands.proofs.QuietBursts.{mute-bursts, quiet-bursts}
-use Rattle.trace_commands.proofs.MovedTraces.{mute-unmoved, quiet-unmoved}
-use Rattle.trace_commands.proofs.QuietTraces.{mute-dumps, mute-compares, mute-unsaved, mute-unmigrated}
-use Rattle.trace_commands.proofs.QuietTraces.{quiet-dumps, quiet-compares, quiet-unsaved, quiet-unmigrated}
+use Rattle.serve_command.proofs.trace_commands_lemmas.QuietBursts.{mute-bursts, quiet-bursts}
+use Rattle.serve_command.proofs.trace_commands_lemmas.MovedTraces.{mute-unmoved, quiet-unmoved}
+use Rattle.serve_command.proofs.trace_commands_lemmas.QuietTraces.{mute-dumps, mute-compares, mute-unsaved, mute-unmigrated}
+use Rattle.serve_command.proofs.trace_commands_lemmas.QuietTraces.{quiet-dumps, quiet-compares, quiet-unsaved, quiet-unmigrated}
 use Rattle.sample_command.proofs.run_commands_lemmas.QuietTexts.{mute-checks, mute-runs, quiet-checks, quiet-runs}
 use Rattle.sample_command.proofs.QuietSamples.{mute-samples}
 use Rattle.vidi_commands.proofs.Facts.{Facts, reads-facts}

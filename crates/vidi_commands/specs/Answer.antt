@@ -8,10 +8,10 @@ use Rattle.wrap_command.specs.vidi_bench.vidi_answer.declared.status.Status.{Sta
 use Rattle.wrap_command.specs.vidi_bench.vidi_answer.declared.status.Status.TheVariants.{Usage, ReadFault, WriteFault, Refused, Memory}
 use Rattle.vidi_commands.specs.Command.{Command, Dump, Check, Run, Record, Replay, Serve, Compare, Salvage, Migrate, Bursts, Move, Wrap, Sample, IsGiven}
 use Rattle.wrap_command.specs.vidi_bench.Steps.{IsSaid}
-use Rattle.trace_commands.specs.Bursts as grouping
-use Rattle.trace_commands.specs.Moves.{MovesEnd, StopsMoving}
-use Rattle.trace_commands.specs.Migrating.{Migrates, StopsMigrating}
-use Rattle.trace_commands.specs.Traces.{Dumps, Compares, Saves, StopsSaving}
+use Rattle.serve_command.specs.trace_commands.Bursts as grouping
+use Rattle.serve_command.specs.trace_commands.Moves.{MovesEnd, StopsMoving}
+use Rattle.serve_command.specs.trace_commands.Migrating.{Migrates, StopsMigrating}
+use Rattle.serve_command.specs.trace_commands.Traces.{Dumps, Compares, Saves, StopsSaving}
 use Rattle.sample_command.specs.run_commands.Checks.{Checks}
 use Rattle.sample_command.specs.run_commands.Runs.{Runs}
 use Rattle.sample_command.specs.run_commands.Records.{Records, StopsRecording}

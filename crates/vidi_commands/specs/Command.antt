@@ -3,7 +3,7 @@ use Rattle.std.specs.Prelude.{◌≡◌, ◌≢◌, ℕ, ◌<◌, ◌≤◌, ◌
 use Rattle.wrap_command.specs.vidi_lines.Number.{number_of}
 use Rattle.sample_command.specs.sample_gen.declared.generate.TheConstants.{LARGEST}
 use Rattle.wrap_command.specs.trace_model.declared.packet.TheConstants.{MOST_CYCLES}
-use Rattle.trace_commands.specs.Moves.{wanted, Wanted}
+use Rattle.serve_command.specs.trace_commands.Moves.{wanted, Wanted}
 use Rattle.vidi_commands.specs.declared.command.Command as declared
 use Rattle.vidi_commands.specs.declared.command.Command.TheVariants as variants
 

@@ -1,12 +1,12 @@
 //! The words of a command line.
 
 ghost use Rattle.std.specs.Prelude.{◌≡◌, ◌≢◌, Bool, ℕ, [], ◌∷◌, MatchOption, codes};
-ghost use Rattle.trace_commands.specs.Moves.{wanted, Wanted};
+ghost use Rattle.serve_command.specs.trace_commands.Moves.{wanted, Wanted};
 ghost use Rattle.vidi_commands.specs.Command as spec;
 
 use sample_command::sample_gen::LARGEST;
 use sample_command::trace_code::trace_model::MOST_CYCLES;
-use trace_commands::{Completion, Wish};
+use serve_command::trace_commands::{Completion, Wish};
 use wrap_command::vidi_io::Words;
 use wrap_command::vidi_lines::number;
 

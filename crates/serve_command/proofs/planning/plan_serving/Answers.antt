@@ -1,7 +1,7 @@
 use Rattle.std.proofs.Common.{ℕ, List, inr}
-use Rattle.vidi_recorder.specs.vidi_io.Cause.{Rose}
-use Rattle.vidi_bench.specs.Steps.{Never}
-use Rattle.vidi_bench.proofs.Chain.{all-as, if-ends, passed-as}
+use Rattle.run_commands.specs.vidi_recorder.vidi_io.Cause.{Rose}
+use Rattle.run_commands.specs.vidi_bench.Steps.{Never}
+use Rattle.run_commands.proofs.vidi_bench_lemmas.Chain.{all-as, if-ends, passed-as}
 use Rattle.serve_command.specs.Serves.{IsUnserved, ReadServed, RefusedTexts}
 use Rattle.serve_command.proofs.Unserved.{never-read}
 use Rattle.serve_command.proofs.planning.plan_serving.Goals as goal

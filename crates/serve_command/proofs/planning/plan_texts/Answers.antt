@@ -1,12 +1,12 @@
 use Rattle.std.proofs.Common.{Ok}
-use Rattle.bench_run.specs.env_script.Reasons.{read_lines}
-use Rattle.bench_run.specs.env_script.Stalls.{ReadsStalls}
-use Rattle.bench_run.specs.chan_map.declared.pins.Map.{Map}
-use Rattle.vidi_bench.specs.Devices.{IsDevice, Wiring}
-use Rattle.vidi_bench.specs.Ended.{EndsWith}
-use Rattle.vidi_bench.specs.Steps.{Never}
-use Rattle.vidi_bench.proofs.Chain.{passed-as}
-use Rattle.vidi_bench.proofs.Wired.{never-wired, wired-then}
+use Rattle.run_commands.specs.bench_run.env_script.Reasons.{read_lines}
+use Rattle.run_commands.specs.bench_run.env_script.Stalls.{ReadsStalls}
+use Rattle.run_commands.specs.bench_run.chan_map.declared.pins.Map.{Map}
+use Rattle.run_commands.specs.vidi_bench.Devices.{IsDevice, Wiring}
+use Rattle.run_commands.specs.vidi_bench.Ended.{EndsWith}
+use Rattle.run_commands.specs.vidi_bench.Steps.{Never}
+use Rattle.run_commands.proofs.vidi_bench_lemmas.Chain.{passed-as}
+use Rattle.run_commands.proofs.vidi_bench_lemmas.Wired.{never-wired, wired-then}
 use Rattle.serve_command.specs.Serves.{IsPort, RefusedServed, RefusedTexts}
 use Rattle.serve_command.proofs.planning.plan_texts.Goals as goal
 

@@ -1,6 +1,6 @@
 use Rattle.std.proofs.Common.{inl, inr}
-use Rattle.vidi_bench.specs.Steps.{Never}
-use Rattle.vidi_bench.proofs.Chain.{passed-as}
+use Rattle.run_commands.specs.vidi_bench.Steps.{Never}
+use Rattle.run_commands.proofs.vidi_bench_lemmas.Chain.{passed-as}
 use Rattle.run_commands.specs.Records.{RefusedRoom}
 use Rattle.trace_commands.specs.Bursts.{Porting}
 use Rattle.trace_commands.proofs.Ported.{never-ported}

@@ -1,10 +1,10 @@
 use Rattle.std.proofs.Common.{ℕ, List, inl, inr, ◌∙◌}
-use Rattle.vidi_recorder.specs.vidi_io.Cause.{Rose}
-use Rattle.vidi_bench.specs.report_text.declared.reason.Word.TheVariants as words
-use Rattle.vidi_bench.specs.Design.{text_limit}
-use Rattle.vidi_bench.specs.Reading.{IsUnread}
-use Rattle.vidi_bench.specs.Steps.{Never}
-use Rattle.vidi_bench.proofs.Chain.{passed-as, read-as, rose-since, unread-as}
+use Rattle.run_commands.specs.vidi_recorder.vidi_io.Cause.{Rose}
+use Rattle.run_commands.specs.vidi_bench.report_text.declared.reason.Word.TheVariants as words
+use Rattle.run_commands.specs.vidi_bench.Design.{text_limit}
+use Rattle.run_commands.specs.vidi_bench.Reading.{IsUnread}
+use Rattle.run_commands.specs.vidi_bench.Steps.{Never}
+use Rattle.run_commands.proofs.vidi_bench_lemmas.Chain.{passed-as, read-as, rose-since, unread-as}
 use Rattle.serve_command.specs.Serves.{ReadServed}
 use Rattle.serve_command.proofs.planning.read_served.Goals as goal
 

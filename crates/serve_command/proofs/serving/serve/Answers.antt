@@ -1,9 +1,9 @@
 use Rattle.std.proofs.Common.{ℕ, List, inl}
-use Rattle.vidi_recorder.specs.vidi_io.Cause.{Rose}
-use Rattle.vidi_recorder.specs.vidi_io.Shelf.{HasStarted}
-use Rattle.vidi_recorder.specs.vidi_io.Writing.{IsKept}
-use Rattle.vidi_recorder.proofs.vidi_io_lemmas.Cut.{started-since}
-use Rattle.vidi_bench.proofs.Chain.{passed-owed, rose-since}
+use Rattle.run_commands.specs.vidi_recorder.vidi_io.Cause.{Rose}
+use Rattle.run_commands.specs.vidi_recorder.vidi_io.Shelf.{HasStarted}
+use Rattle.run_commands.specs.vidi_recorder.vidi_io.Writing.{IsKept}
+use Rattle.run_commands.proofs.vidi_recorder_lemmas.vidi_io_lemmas.Cut.{started-since}
+use Rattle.run_commands.proofs.vidi_bench_lemmas.Chain.{passed-owed, rose-since}
 use Rattle.serve_command.specs.Serves.{IsUnserved, Serves, StopsServing}
 use Rattle.serve_command.proofs.Served.{served-owed}
 use Rattle.serve_command.proofs.serving.serve.Goals as goal

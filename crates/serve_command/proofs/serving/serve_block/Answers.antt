@@ -1,10 +1,10 @@
 use Rattle.std.proofs.Common.{ℕ, List, [], None, refl}
-use Rattle.bench_run.specs.trace_model.declared.channel.Channel.{Channel}
+use Rattle.run_commands.specs.bench_run.trace_model.declared.channel.Channel.{Channel}
 use Rattle.axi_memory.specs.Memory.{memory_offer}
 use Rattle.axi_memory.specs.Stands.{served}
-use Rattle.vidi_recorder.specs.vidi_io.Shelf.{HasStarted}
-use Rattle.vidi_recorder.specs.Course.{course}
-use Rattle.vidi_bench.proofs.Chain.{if-ends, if-fails}
+use Rattle.run_commands.specs.vidi_recorder.vidi_io.Shelf.{HasStarted}
+use Rattle.run_commands.specs.vidi_recorder.Course.{course}
+use Rattle.run_commands.proofs.vidi_bench_lemmas.Chain.{if-ends, if-fails}
 use Rattle.run_commands.specs.Recorded.{FileEnds, FileFails}
 use Rattle.run_commands.proofs.Recorded.{at-these}
 use Rattle.serve_command.proofs.Served.{served-fails}

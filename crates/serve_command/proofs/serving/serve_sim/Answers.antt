@@ -1,7 +1,7 @@
 use Rattle.std.proofs.Common.{subst}
 use Rattle.net_design.specs.declared.design.Design.{Design}
-use Rattle.vidi_recorder.specs.vidi_io.Shelf.{HasStarted}
-use Rattle.vidi_bench.proofs.Chain.{if-ends, if-fails}
+use Rattle.run_commands.specs.vidi_recorder.vidi_io.Shelf.{HasStarted}
+use Rattle.run_commands.proofs.vidi_bench_lemmas.Chain.{if-ends, if-fails}
 use Rattle.serve_command.specs.Serves.{ServedEnds, ServedFails}
 use Rattle.serve_command.proofs.serving.serve_sim.Goals as goal
 

@@ -1,5 +1,5 @@
-use Rattle.vidi_bench.specs.AnswerText.{text_of}
-use Rattle.vidi_recorder.specs.vidi_io.Shelf.{HasStarted}
+use Rattle.run_commands.specs.vidi_bench.AnswerText.{text_of}
+use Rattle.run_commands.specs.vidi_recorder.vidi_io.Shelf.{HasStarted}
 use Rattle.serve_command.proofs.Served.{told-served}
 use Rattle.serve_command.proofs.serving.served_with.Goals as goal
 

@@ -9,10 +9,10 @@ use Rattle.sample_command.specs.run_commands.Records.{Records, StopsRecording}
 use Rattle.sample_command.specs.replay_command.Replays.{Replays, StopsReplaying}
 use Rattle.sample_command.specs.run_commands.Runs.{Runs}
 use Rattle.sample_command.specs.Samples.{Samples}
-use Rattle.trace_commands.specs.Bursts as grouping
-use Rattle.trace_commands.specs.Moves.{wanted, MovesEnd, StopsMoving}
-use Rattle.trace_commands.specs.Migrating.{Migrates, StopsMigrating}
-use Rattle.trace_commands.specs.Traces.{Compares, Dumps, Saves, StopsSaving}
+use Rattle.serve_command.specs.trace_commands.Bursts as grouping
+use Rattle.serve_command.specs.trace_commands.Moves.{wanted, MovesEnd, StopsMoving}
+use Rattle.serve_command.specs.trace_commands.Migrating.{Migrates, StopsMigrating}
+use Rattle.serve_command.specs.trace_commands.Traces.{Compares, Dumps, Saves, StopsSaving}
 use Rattle.serve_command.specs.Serves.{Serves, StopsServing}
 use Rattle.wrap_command.specs.Wraps.{StopsWrapping, Wraps}
 use Rattle.wrap_command.proofs.vidi_bench_lemmas.Chain.{owed, owed-as}
