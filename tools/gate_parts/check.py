@@ -1,4 +1,5 @@
-"""Plays examples, tools, pages, printed texts, wrapped designs, resets, memories and waves: what .ci/run asks for behind a green `rt ci` beside the wrong bodies.
+"""Plays examples, tools, pages, printed texts, wrapped designs, resets, memories and waves: what .ci/run asks for behind a green `rt ci` beside the
+wrong bodies.
 
     gate [--vidi PROGRAM] check                 all parts, each of which says what it played and what it skipped for want of a program
     gate [--vidi PROGRAM] check PART [WORDS..]  one of them, with its own words
