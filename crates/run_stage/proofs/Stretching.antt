@@ -1,6 +1,6 @@
 -- Stretches of played rows, one row or one reset longer.
-use Rattle.std.proofs.Common.{◌≡◌, ◌×◌, ℕ, ◌+◌, ◌<◌, ◌≤◌, Bool, false, List, [], ◌∷◌, ◌++◌, Some, None, Result, Err, IfErr, All}
-use Rattle.std.proofs.Common.{length, slice_get, take, append_assoc, refl, ap, sym, subst, ◌∙◌, arith, ⊎_elim, absurd}
+use Rattle.std.proofs.Common.{◌≡◌, ℕ, ◌+◌, ◌<◌, ◌≤◌, Bool, false, List, [], ◌∷◌, ◌++◌, Some, None, Result, Err, IfErr, All}
+use Rattle.std.proofs.Common.{length, slice_get, take, append_assoc, refl, ap, sym, subst, ◌∙◌, arith, ⊎_elim}
 use Rattle.std.proofs.Math.Logic.{∥∥₁_elim, ∥∥₁_map}
 use Rattle.std.proofs.lemmas.Bool.{cases_lt}
 use Rattle.std.proofs.lemmas.List.{append-nil, length_push, take-append-le, take_all}
