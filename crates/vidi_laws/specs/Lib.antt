@@ -3,3 +3,4 @@ pub mod Headline
 pub mod Migrated
 pub mod OneAnswer
 pub mod OneRun
+pub mod Served
