@@ -7,12 +7,12 @@ use Rattle.std.proofs.lemmas.Option.{slice_get-get_or}
 use Rattle.run_stage.specs.chan_monitor.vidi_bits.Number.{has}
 use Rattle.env_script.specs.trace_model.declared.row.Row.{Row}
 use Rattle.env_script.specs.trace_model.declared.row.Offers.{Offers}
-use Rattle.run_stage.specs.run_model.Laws.{ContentsStay, GatesFit, GatesStay, OffersFit, OffersStay}
+use Rattle.run_stage.specs.run_model.Laws.{ContentsStay, IsReady, GatesFit, GatesStay, OffersFit, OffersStay}
 use Rattle.run_stage.specs.run_model.Played.{AreStable, all_up}
 use Rattle.run_stage.specs.run_model.Run.{AllUp}
 use Rattle.run_stage.specs.run_model.Stretches.{AreTheRun, and_stretch, offers_behind, rows_of}
 use Rattle.run_stage.proofs.run_model_lemmas.ReplayLaws.{all-up-below}
-use Rattle.run_laws.specs.StretchLaws.{Behind}
+use Rattle.run_laws.specs.StretchLaws.{Behind, OneEnding}
 use Rattle.run_laws.proofs.Ending.{one-ending_in_stretches, the-run_in}
 use Rattle.run_laws.proofs.StretchLaws.{one-run_in_stretches, run-stretches_keep_contents}
 use Rattle.net_design.specs.declared.design.Design.{Design}
@@ -69,12 +69,18 @@ one-spot cycle (Some s) (Some t) e p q =
     let same : s.cycle ≡ t.cycle = p ∙ sym q in
     λ i. Some (record { channel = channel i; cycle = same i })
 
+-- with all gates up a run of n cycles ends in one way, in the same stretches
+pub one-stretches : (d : Design) (m : Map) (offer : List Row → ℕ → Offer) (resets : List ℕ) → IsReady d m → AreLasting m.channels offer
+    → (n : ℕ) → OneEnding (AreTheRun d m (offers_after m.channels offer) (λ before. AllUp m.channels) (is_due_behind resets) n)
+one-stretches d m offer resets ready lasting n = one-ending_in_stretches d m ready (offers_after m.channels offer)
+    (fit-behind d m offer lasting) (λ past before. all_up m.channels) (up-fit d m offer lasting) (is_due_behind resets) n
+
 pub one-plain_run : OnePlainRun
 one-plain_run d m offer resets ready lasting n =
     let os = offers_after m.channels offer in
     let fit = fit-behind d m offer lasting in
     let gates = up-fit d m offer lasting in
-    let ends = one-ending_in_stretches d m ready os fit (λ past before. all_up m.channels) gates (is_due_behind resets) n in (
+    let ends = one-stretches d m offer resets ready lasting n in (
       one-run_in_stretches d m ready os fit (λ past before. all_up m.channels) gates (is_due_behind resets) n,
       (
         ∥∥₁_map ends.0 (λ (x : (past : List (List Row)) × (here : List Row) × (stop : Option ℕ)
