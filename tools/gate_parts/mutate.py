@@ -3,12 +3,12 @@
     gate mutate [--count N] [--seed S] [--only COMMAND] [--keep FOLDER]
 
 N inputs a command (10,000 where nothing is said) for check, run, wave, value, record, replay, serve, dump, compare, salvage, migrate and wrap. Each is
-made of the files of an example or of a design of `make random`, of `serve` of one of `make managers`: in one or more of the files that the command reads, bytes are changed, cut or doubled and lines or
-words exchanged, one to four times; to one trace in five a reset is added before. Wrong is: an end by a signal, more than a second of processor
-time three times (or 20 seconds by the clock), anything on the standard error, an exit number other than 0, 4, 5, 6 and 7 (the words are always a
-command, and its files are there), lines that aren't those of the exit number, a file beside the one to be written, that one after a refusal, and
-an OUT that `vidi dump` (of `wave`: `vidi value`; of `wrap`: `vidi check`, with both tops) doesn't take. The same seed tries the same inputs. It says how often each
-command ended how.
+made of the files of an example or of a design of `make random`, of serve of one of `make managers`: in one or more of the files that the command
+reads, bytes are changed, cut or doubled and lines or words exchanged, one to four times; to one trace in five a reset is added before. Wrong is: an
+end by a signal, more than a second of processor time three times (or 20 seconds by the clock), anything on the standard error, an exit number other
+than 0, 4, 5, 6 and 7 (the words are always a command, and its files are there), lines that aren't those of the exit number, a file beside the one to
+be written, that one after a refusal, and an OUT that `vidi dump` (of wave: `vidi value`; of wrap: `vidi check`, with both tops) doesn't take. The
+same seed tries the same inputs. It says how often each command ended how.
 """
 import argparse
 import collections

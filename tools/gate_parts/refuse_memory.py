@@ -53,7 +53,8 @@ int posix_memalign(void **to, size_t align, size_t size) {
 MASTERED = "mastered"
 COMMANDS = {
     "check": ["design.v", "TOP"], "run": ["design.v", "map", "script"], "wave": ["design.v", "map", "script", "out"], "value": ["wave", "CLOCK", "0"],
-    "serve": [f"{MASTERED}/{name}" for name in ("design.v", "map", "axi", "stalls")] + ["CYCLES", "out"], "record": ["design.v", "map", "script", "stalls", "out"],
+    "serve": [f"{MASTERED}/{name}" for name in ("design.v", "map", "axi", "stalls")] + ["CYCLES", "out"],
+    "record": ["design.v", "map", "script", "stalls", "out"],
     "replay": ["design.v", "map", "trace", "300", "out"], "dump": ["trace"], "compare": ["trace", "other"], "salvage": ["broken", "out"],
     "migrate": ["old", "out"], "wrap": ["design.v", "map", "out"],
 }

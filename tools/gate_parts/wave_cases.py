@@ -216,10 +216,12 @@ def values():
         ("w t -1", "vidi: usage"), ("w t 1x", "vidi: usage"), ("w t", "vidi: usage"), ("w t 1 w", "vidi: usage"), ("none t 1", "vidi: read fault wave"),
         ("none t 4294967296", "vidi: usage")))
     out += "** below the top, the last line left out where it says nothing, no cycle, a scope that comes again\n"
-    for text, asked in ((PAIR, [("u.x$1 0", "2"), ("u.x$1 1", "0"), ("u.x$1 2", "0"), ("u.x$1 3", no_cycle.format(3)), ("x$1 0", "vidi: refused wave: no net"),
-                                ("u 0", "vidi: refused wave: no net"), ("top.u.x$1 0", "vidi: refused wave: no net")]),
-                        (PAIR.removesuffix("#3\n"), [("u.x$1 1", "0"), ("u.x$1 2", no_cycle.format(2))]), (EMPTY, [("_ 0", no_cycle.format(0))]),
-                        (AGAIN, [("u.x 0", "0"), ("v.x 0", "1"), ("u.y 0", "1"), ("v.y 0", "vidi: refused wave: no net")])):
+    no_net = "vidi: refused wave: no net"
+    for text, asked in (
+            (PAIR, [("u.x$1 0", "2"), ("u.x$1 1", "0"), ("u.x$1 2", "0"), ("u.x$1 3", no_cycle.format(3)), ("x$1 0", no_net), ("u 0", no_net),
+                    ("top.u.x$1 0", no_net)]),
+            (PAIR.removesuffix("#3\n"), [("u.x$1 1", "0"), ("u.x$1 2", no_cycle.format(2))]), (EMPTY, [("_ 0", no_cycle.format(0))]),
+            (AGAIN, [("u.x 0", "0"), ("v.x 0", "1"), ("u.y 0", "1"), ("v.y 0", no_net)])):
         out += "".join(valued(f"w {words}", line).replace("\n", "\n" + part("--", "w", text), 1) for words, line in asked)
     return out
 
