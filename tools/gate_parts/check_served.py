@@ -24,7 +24,6 @@ from vidi_tools import axi_kit
 from vidi_tools import commands
 from vidi_tools import icarus_rows
 from vidi_tools import tool_kit
-from vidi_tools import trace_kit
 from vidi_tools.tool_kit import Problem
 
 WIDE = "capacity 65536\n"
