@@ -11,7 +11,8 @@ wrap       wrapped designs, written by a model of its own
 sample     what samples come to, by a model of its own
 random     wrapped random designs
 bursts     what `vidi bursts` says of traces, by a reader of its own
-serve      what `vidi serve` says and leaves, by hand, once it is a command
+serve      what `vidi serve` says and leaves, by hand and by a memory of its own
+wave       what `vidi wave` and `vidi value` say and leave, by hand and by models
 move       moved completions of traces by chance, by a model of its own
 resets     what `vidi run` says of scripts that ask for resets, by models of its own
 records    what `vidi record` and `vidi replay` make of them, by the same models

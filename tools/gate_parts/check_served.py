@@ -15,6 +15,8 @@ import tempfile
 
 from gate_parts import check_resets
 from gate_parts import memory_bench
+from gate_parts import serve_cases
+from gate_parts import serve_programs
 from gate_parts import serve_rows
 from gate_parts.check_resets import Wrong, compared
 from make_kinds import managers
@@ -22,7 +24,6 @@ from vidi_tools import axi_kit
 from vidi_tools import commands
 from vidi_tools import icarus_rows
 from vidi_tools import tool_kit
-from vidi_tools import trace_kit
 from vidi_tools.tool_kit import Problem
 
 WIDE = "capacity 65536\n"
@@ -40,7 +41,7 @@ class Folder(check_resets.Folder):
         """What is said of these rows, and the bytes of their trace."""
         count = len(self.trace(found.rows).packets)
         said = f"vidi: unstable {found.unstable} cycle {len(found.rows)}" if found.unstable else f"recorded {len(found.rows)} cycles {count} packets"
-        return f"{said}\n", self.bytes_of(found.rows)
+        return f"{said}\n{self.bytes_of(found.rows).hex()}"
 
     def read(self, stalls):
         """The rows with the memory that is read anew in each."""
@@ -60,16 +61,15 @@ class Checker:
     def play(self, folder, seed):
         """A random design: behind the small store, with all gates up, and at times a replay."""
         folder.write("wide", WIDE)
-        built = folder.told(folder.built())
         wide, small = folder.read("wide"), folder.read("stalls")
-        compared("the two memories", "\n".join([built[0], built[1].hex()]), "\n".join([folder.told(wide)[0], folder.told(wide)[1].hex()]))
+        compared("the two memories", folder.told(folder.built()), folder.told(wide))
         self.count(folder, small)
         if not self.serves:
             return
         for stalls, found in (("wide", wide), ("stalls", small)):
-            said, content = folder.told(found)
-            compared(f"vidi serve, {stalls}", folder.said("serve", "design.v", "map", "axi", stalls, str(folder.cycles), "trace")[0], said)
-            compared(f"the trace, {stalls}", folder.content("trace").hex(), content.hex())
+            said, _ = folder.said("serve", "design.v", "map", "axi", stalls, str(folder.cycles), "trace")
+            content = folder.content("trace")
+            compared(f"vidi serve, {stalls}", said + content.hex(), folder.told(found))
         if seed % REPLAYED == 0:
             most = 3 * folder.cycles + 20
             lines, status, out = folder.replay(content, most)
@@ -86,6 +86,20 @@ class Checker:
             self.seen[role] += sum(port.channel in row.ends for row in found.rows)
 
 
+def play_cases():
+    """Icarus says of the recordings that are cases, by models, what stands there; where all gates stay up, with the memory in Verilog too. How many
+    there are."""
+    for title, program, words, stalls, cycles in serve_programs.PROGRAMS:
+        with tempfile.TemporaryDirectory() as path:
+            folder = Folder(path, {**serve_cases.program_files(program, words, stalls), "cycles": str(cycles)})
+            wanted = serve_cases.modelled(program, words, stalls, cycles)
+            compared(title, folder.told(folder.read("stalls")), wanted)
+            if "drain" not in stalls:
+                compared(f"{title}, in Verilog", folder.told(folder.built()), wanted)
+            folder.design.close()
+    return len(serve_programs.PROGRAMS)
+
+
 def main():
     """Plays all."""
     parser = argparse.ArgumentParser(description=__doc__, formatter_class=argparse.RawDescriptionHelpFormatter)
@@ -96,6 +110,10 @@ def main():
     if not shutil.which("iverilog") or not shutil.which("vvp"):
         print("skipped, Icarus isn't installed: a memory as environment")
         return
+    try:
+        print(f"{play_cases()} recordings with a memory are in Icarus what the cases have")
+    except Wrong as found:
+        raise Problem(str(found)) from found
     checker, wrong = Checker(), 0
     if not checker.serves:
         print("skipped, vidi has no such command: serve")

@@ -4,7 +4,8 @@
 
 Icarus runs the design under the script, in every other one with resets in mid-run, and dumps all its nets. The names, widths and order of nets, each
 net's number in each cycle, what is printed and the whole text have to be the same; and so `vidi value` of some nets and cycles. Waves of the examples
-also go through vcd2fst and back by fst2vcd, of Debian's gtkwave. Where vidi has no `wave` yet, only this is tried, on the text that is wanted.
+also go through vcd2fst and back by fst2vcd, of Debian's gtkwave. First the cases of gate_parts/wave_cases.py are played, which were made by hand or by
+models. Where vidi has no `wave` yet, only that is tried, and the text that is wanted is packed.
 """
 import argparse
 import collections
@@ -16,6 +17,7 @@ import sys
 import tempfile
 
 from gate_parts import check_resets
+from gate_parts import wave_cases
 from gate_parts import wave_rows
 from gate_parts.check_resets import Wrong, compared
 from make_kinds import random_design
@@ -23,6 +25,7 @@ from make_kinds import resets
 from vidi_tools import commands
 from vidi_tools import icarus_rows
 from vidi_tools import tool_kit
+from vidi_tools.tool_kit import Problem
 
 ASKED = 4  # nets and cycles of each wave that `vidi value` is asked for
 
@@ -78,6 +81,17 @@ class Checker:
             raise Wrong("vcd2fst and fst2vcd give other numbers")
 
 
+def play_cases():
+    """Icarus says of the waves that are cases what stands there. How many there are."""
+    found = list(wave_cases.played())
+    for title, (design, mapped, script), said, text, _ in found:
+        with tempfile.TemporaryDirectory() as path:
+            folder = Folder(path, {"design.v": design, "map": mapped, "script": script})
+            line, *_, wave = folder.waved()
+            compared(title, line + wave, said + text)
+    return len(found)
+
+
 def texts_of(name):
     """The files of an example."""
     return {file: tool_kit.text_of(os.path.join(tool_kit.EXAMPLES, name, file)) for file in ("design.v", "map", "script")}
@@ -116,6 +130,10 @@ def main():
     if not shutil.which("iverilog") or not shutil.which("vvp"):
         print("skipped, Icarus isn't installed: waves")
         return
+    try:
+        print(f"{play_cases()} waves are in Icarus what the cases have")
+    except Wrong as found:
+        raise Problem(str(found)) from found
     checker, wrong = Checker(), 0
     for name in [name for name in ("wave", "value") if not commands.has(name)]:
         print(f"skipped, vidi has no such command: {name}")

@@ -1,16 +1,23 @@
 """Writes as a case file (docs/CASES.md), which `rt ci` plays, what `vidi serve` says and leaves. What is expected was made by hand, from what
-docs/FILES.md says of a memory as environment.
+docs/FILES.md says of a memory as environment, or by the memory of gate_parts/serve_rows.py with models of the designs of gate_parts/serve_programs.py;
+`gate check served` plays the same in Icarus.
 
 `mgr` writes the number 1000 to byte 8, and then reads it back.
 """
 import os
+import tempfile
 
-from vidi_tools import commands
-from vidi_tools import tool_kit
+from gate_parts import serve_programs
+from gate_parts import serve_rows
 from gate_parts.page_cases import part
+from vidi_tools import axi_kit
+from vidi_tools import commands
+from vidi_tools import icarus_rows
+from vidi_tools import tool_kit
+from vidi_tools import trace_kit
 
 DATA = os.path.join(tool_kit.HERE, "..", "crates", "vidi_cases", "data", "serve.case")
-HEAD = "## Made by tools/gate cases: what `vidi serve` says and leaves. What is expected was made by hand.\n"
+HEAD = "## Made by tools/gate cases: what `vidi serve` says and leaves. What is expected was made by hand, or by models in Python.\n"
 
 MGR = """module mgr(input clk, output aw_v, input aw_r, output [31:0] aw_a,
   output w_v, input w_r, output [31:0] w_d, output [3:0] w_s,
@@ -123,9 +130,83 @@ def words():
             files() + "".join(f"== serve {call}\n{usage}" for call in calls))
 
 
+# Lines of an AXI file, and the line that is refused: of what `memory` and `data` add.
+LINED = [
+    (AXI.replace("memory 16", "memory 0"), "A1 line 7"), (AXI.replace("memory 16", "memory 65537"), "A1 line 7"), (AXI + "memory 16\n", "A1 line 9"),
+    (AXI + PLACES, "A1 line 9"), (AXI.replace("memory 16", "memory"), "A1 line 7"), (AXI.replace("memory 16", "memory 4 4"), "A1 line 7"),
+    (AXI.replace("data 0 1 0", "data 0 1"), "A1 line 8"), (AXI.replace("data 0 1 0", "data 0 1 none"), "A1 line 8"), (SIZE + AXI, "A1 line 1"),
+    ("beat 4\ndata 0 1 0\nar ar none 0 none none none\nr r none none\nx\n", "A1 line 2"), ("beat 4\ndata 0 1 0\naw\nw\nb\nar\nr\n", "A1 line 3"),
+    (AXI.replace("data 0 1 0", "data 0 2 0"), "A2 port line 8"), (AXI.replace("data 0 1 0", "data 2 1 0"), "A2 port line 8"),
+    (AXI.replace("data 0 1 0", "data 0 1 1"), "A2 port line 8"), (AXI.replace("data 0 1 0", "data 0 0 0"), "A2 port line 8"),
+    (AXI.replace("beat 4", "beat 8"), "A2 port line 8"), (AXI.replace("w w none", "w x none"), "A2 port line 3"),
+    ("beat 4\n" + PLACES + LINES.replace("beat 4\n", "").replace("w w", "w x") + SIZE, "A2 port line 2")]
+
+
+def lined():
+    """The lines `memory` and `data`, and the largest memory."""
+    out = "** lines of a memory that are refused, and the largest memory\n" + files()
+    out += "".join(with_file("a", text, f"axi: {line}") for text, line in LINED)
+    largest = part("--", "a", AXI.replace("memory 16", "memory 0x10000"))
+    return out + CALL + largest + part(">>", "0", "recorded 8 cycles 5 packets\n") + part(">x", "trace", "".join(f"{line}\n" for line in TRACE))
+
+
+def taken_back():
+    """A design that changes what it shows, and other numbers of cycles."""
+    changed = MGR.replace("w_d = 32'd1000", "w_d = {31'd0, p}")
+    packets = [TRACE[0], "010000030100000008000000000f", "0000000001"]
+    out = "** what isn't taken changes\n" + files(changed) + CALL + part(">>", "5", "vidi: unstable w cycle 1\n")
+    out += part(">x", "trace", "".join(f"{line}\n" for line in packets)) + "** one cycle, and the end of the run\n" + files()
+    for cycles, count in (("1", 1), ("2", 2), ("4", 4), ("50000", 5), ("0x8", 5)):
+        trace = "".join(f"{line}\n" for line in [*TRACE[:1 + count], f"00{count:08x}"])
+        said = f"recorded {int(cycles, 0)} cycles {count} packets\n"
+        out += f"== serve d m a s {cycles} trace\n" + part(">>", "0", said) + part(">x", "trace", trace)
+    return out
+
+
+def failing():
+    """Calls that fail: what is left, and what is said."""
+    whole, out = "".join(TRACE), "** each call that fails\n" + files()
+    for at, word in enumerate(["design", "design", "map", "map", "axi", "axi", "stalls", "stalls"], 1):
+        out += CALL + f"!! fetch {at}\n" + part(">>", "2", f"vidi: read fault {word}\n")
+    out += CALL + "!! start 1\n>> 3\n" + CALL + "!! push 1\n>> 3\n" + part(">x", "trace", f"{whole}\n")
+    for count in (0, 1, 35):
+        out += CALL + f"!! append 1 keeps {count}\n>> 3\n" + part(">x", "trace", f"{whole[:2 * count]}\n" if count else "")
+    return out
+
+
+def program_files(program, words, stalls):
+    """The texts of a program's files."""
+    return {"design.v": program.text(), "map": serve_programs.MAP, "axi": serve_programs.AXI.format(words), "stalls": stalls}
+
+
+def modelled(program, words, stalls, cycles):
+    """The line of a program's recording and the digits of its trace, by its model."""
+    with tempfile.TemporaryDirectory() as folder:
+        paths = {}
+        for name, text in program_files(program, words, stalls).items():
+            paths[name] = os.path.join(folder, name)
+            tool_kit.write(paths[name], text)
+        plan, axi = icarus_rows.Map(paths["map"]), axi_kit.AxiFile(paths["axi"])
+        design = program.model(plan)
+        found = serve_rows.play(plan, design, axi, icarus_rows.Room(design.widths, paths["stalls"]), cycles)
+    trace = icarus_rows.trace_of(plan, design.widths, found.rows)
+    return f"recorded {len(found.rows)} cycles {len(trace.packets)} packets\n{trace_kit.encoded(trace.channels, trace.packets).hex()}"
+
+
+def programs():
+    """Bursts of all kinds, by models."""
+    out = ""
+    for title, program, words, stalls, cycles in serve_programs.PROGRAMS:
+        said, digits = modelled(program, words, stalls, cycles).split("\n")
+        texts = program_files(program, words, stalls)
+        out += f"** {title}\n" + files(texts["design.v"], texts["map"], texts["axi"], texts["stalls"]) + f"== serve d m a s {cycles} trace\n"
+        out += part(">>", "0", f"{said}\n") + part(">x", "trace", "".join(f"{digits[at:at + 80]}\n" for at in range(0, len(digits), 80)))
+    return out
+
+
 def text():
     """The case file."""
-    return HEAD + worked() + lacks() + order() + words()
+    return HEAD + worked() + lacks() + order() + words() + lined() + taken_back() + failing() + programs()
 
 
 def wanted():

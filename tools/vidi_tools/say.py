@@ -14,6 +14,7 @@ from vidi_tools import axi_kit
 from vidi_tools import commands
 from vidi_tools import tool_kit
 from vidi_tools import trace_kit
+from vidi_tools import wave_kit
 
 COMMANDS = {one.name: one.words for one in commands.VIDI}
 LAWFUL = {"CYCLES": "1 to 50000", "CYCLE": "0 to 4294967295", "NUMBER": "0 to 6000", "J": "0 to 4294967295", "K": "0 to 4294967295"}
@@ -195,16 +196,7 @@ def axi_fault(files, words):
 
 def nets_of(path):
     """The full names of a wave's nets, the first of them."""
-    found, at = [], []
-    for words in (line.split() for line in tool_kit.text_of(path).splitlines()):
-        if words[:1] == ["$scope"]:
-            at.append(words[2])
-        elif words[:1] == ["$upscope"]:
-            at.pop()
-        elif words[:1] == ["$var"]:
-            found.append(".".join(at[1:] + [words[4]]))
-        elif words[:1] == ["$enddefinitions"]:
-            break
+    found = wave_kit.names_of(path)
     return found[:SHOWN] + [f"and {len(found) - SHOWN} more"] * (len(found) > SHOWN)
 
 
