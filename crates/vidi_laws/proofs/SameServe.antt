@@ -80,7 +80,7 @@ module _ (laws : BenchLaws) where
   module _ (design m axi stalls : List ℕ) (files : Files) (v : Device) (port : Axi) (plan : Stalls)
       (is : IsServing design m axi stalls (Some files) v port plan) (a : Status) (x : List ℕ) where
     port-apart : RefusedPort is.texts.stalls v.map.channels port a x → ⊥
-    port-apart (inl lacks) = lacking-apart port v.map.channels a x unit lacks is.serving.port.whole
+    port-apart (inl lacks) = lacking-apart port v.map.channels a x tt lacks is.serving.port.whole
     port-apart (inr (_, _, refused)) =
         room-apart laws is.texts.stalls (need v.map.channels) plan is.serving.planned is.serving.holds a x refused
 
