@@ -33,6 +33,7 @@ use Rattle.vidi_recorder.specs.Standing.{BreaksAt, Cut, Going, IsNextFresh, Lent
 use Rattle.vidi_recorder.proofs.Going.{Cycle, bytes_behind, end-more, fresh-last, mixed-long, put-long}
 use Rattle.vidi_recorder.proofs.Turning.{IsNext, next-row}
 use Rattle.vidi_recorder.proofs.Turns.{count-few, cut-next, going-next}
+use Rattle.run_stage.proofs.Stretching.{all-more}
 
 -- what is known of a recorder at a cycle
 pub record Knows (m : Map) (offer : List Row → ℕ → Offer) (stalls : Stalls) (times : List ℕ) (cycles : ℕ) (given : List Channel)
@@ -238,7 +239,7 @@ module _ (m : Map) (offer : List Row → ℕ → Offer) (stalls : Stalls) (times
     pub next-now : IsNextFresh m.channels plan times cycles past (here ++ row ∷ []) comes
     next-now = record {
       begins = λ e. absurd (none here e);
-      goes_on = λ l. p.said ∙ ap (turns_within m.channels plan times cycles) (more past here row);
+      goes_on = λ l. p.said ∙ ap (turns_within m.channels plan times cycles) (all-more past here row);
     }
       where
         none : (rs : List Row) → rs ++ row ∷ [] ≡ [] → ⊥
