@@ -36,7 +36,7 @@ use Rattle.run_stage.specs.declared.ending.Ending.TheVariants.{Whole, Done, Unst
 use Rattle.run_stage.specs.declared.given.Gated.{Gated}
 use Rattle.run_stage.specs.Given.{FitsGates, IsGatedRow}
 use Rattle.run_stage.specs.Stretching.{all_rows, is_fresh_behind, AllAreStable, ArePlayed, AreRuledStretches, CameBehind, IsAsked, StopIn}
-use Rattle.run_stage.proofs.Stretching.{all-push, all-same, unturned-nil, unturned-push, all-more, count-all}
+use Rattle.run_stage.proofs.Stretching.{all-push, all-same, count-all, rows-push, unturned-nil, unturned-push}
 use Rattle.run_stage.proofs.Turning.{last-of, stable-nil}
 use Rattle.bench_run.specs.Playing.{HasBegun}
 use Rattle.bench_run.specs.Plain.{spot_of, AreRunAllUp, GoesOn, IsBehind, IsPlainRun, StandsBehind, StandsWithin}
@@ -139,7 +139,7 @@ module _ (d : Design) (m : Map) (offer : List Row → ℕ → Offer) (resets : L
       → length (all_rows past here) ≤ n → StandsWithin stands_for d m offer resets n
   within stands_for n stands stable few = record {
     stretches = and_stretch past here;
-    stands = subst stands_for (sym (joined past here)) stands;
+    stands = subst stands_for (sym (rows-push past here)) stands;
     played = are-run;
     stable = all-push (AreStable m.channels) past here stable.before stable.last;
     few = (let c = count-all past here in omega (arith, c, few));

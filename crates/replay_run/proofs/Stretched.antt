@@ -55,7 +55,7 @@ use Rattle.replay_run.specs.Epochs.{epochs}
 use Rattle.replay_run.specs.Replaying.{AreInOrderOf, EndsAs, GoesInNoCircle, IsUnheld, held_behind, waits_behind}
 use Rattle.replay_run.proofs.Epochs.{epoch-all, epoch-plain, epochs-get, epochs-long}
 use Rattle.replay_run.proofs.Renumbered.{held-in, held-numbered, numbered, waits-in}
-use Rattle.run_model.proofs.PinLemmas.{all-at}
+use Rattle.run_stage.proofs.run_model_lemmas.PinLemmas.{all-at}
 
 -- ---- epochs
 epochs-many : (packets : List Packet) → length (epochs packets) ≡ suc (resets packets)
