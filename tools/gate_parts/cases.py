@@ -11,8 +11,6 @@ wrap       wrapped designs, written by a model of its own
 sample     what samples come to, by a model of its own
 random     wrapped random designs
 bursts     what `vidi bursts` says of traces, by a reader of its own
-serve      what `vidi serve` says and leaves, by hand and by a memory of its own
-wave       what `vidi wave` and `vidi value` say and leave, by hand and by models
 move       moved completions of traces by chance, by a model of its own
 resets     what `vidi run` says of scripts that ask for resets, by models of its own
 records    what `vidi record` and `vidi replay` make of them, by the same models
@@ -28,14 +26,13 @@ from gate_parts import print_cases
 from gate_parts import reset_cases
 from gate_parts import reset_record_cases
 from gate_parts import sample_cases
-from gate_parts import serve_cases
 from gate_parts import shim_random_cases
 from gate_parts import wrap_cases
 from vidi_tools import tool_kit
 from vidi_tools.tool_kit import Problem
 
 KINDS = {"pages": page_cases, "print": print_cases, "wrap": wrap_cases, "sample": sample_cases, "random": shim_random_cases, "bursts": burst_cases,
-         "serve": serve_cases, "move": move_cases, "resets": reset_cases, "records": reset_record_cases, "count": count_cases}
+         "move": move_cases, "resets": reset_cases, "records": reset_record_cases, "count": count_cases}
 
 
 def main():

@@ -1,5 +1,4 @@
-"""Plays examples, tools, pages, printed texts, wrapped designs, resets, memories and waves: what .ci/run asks for behind a green `rt ci` beside the
-wrong bodies.
+"""Plays examples, tools, pages, printed texts, wrapped designs and resets: what .ci/run asks for behind a green `rt ci` beside the wrong bodies.
 
     gate [--vidi PROGRAM] check                 all parts, each of which says what it played and what it skipped for want of a program
     gate [--vidi PROGRAM] check PART [WORDS..]  one of them, with its own words
@@ -11,8 +10,6 @@ pages       each page of docs/ that has commands, with what they print
 printed     printed texts, which Icarus and Yosys must read
 wrapped     what `vidi wrap` writes, in Icarus and Verilator
 resets      random designs whose scripts ask for resets, in Icarus
-served      random designs that master a memory, in Icarus
-waves       waves of random designs, and Icarus' own
 """
 import importlib
 import sys
@@ -20,7 +17,7 @@ import sys
 from vidi_tools import tool_kit
 from vidi_tools.tool_kit import Problem
 
-PARTS = ("examples", "tools", "pages", "printed", "wrapped", "resets", "served", "waves")
+PARTS = ("examples", "tools", "pages", "printed", "wrapped", "resets")
 
 
 def status_of(part, words):

@@ -41,20 +41,6 @@ assign s_arready_o = 1, s_rvalid_o = 0, s_rdata_o = 0, s_rlast_o = 0;
 reg x; always @(posedge clk) x <= 0;
 endmodule
 """
-# A manager with all five channels, and what its AXI file has for a memory.
-MASTER = """module master(input clk, output [3:0] m_awid, output [{most}:0] m_awaddr, output [7:0] m_awlen, output m_awvalid, input m_awready,
-  output [63:0] m_wdata, output [{lanes}:0] m_wstrb, output m_wvalid, input m_wready, input [3:0] m_bid, input m_bvalid, output m_bready,
-  output [{most}:0] m_araddr, output m_arvalid, input m_arready, input [1:0] m_rresp, input [63:0] m_rdata, input m_rvalid, output m_rready);
-assign m_awid = 0, m_awaddr = 0, m_awlen = 0, m_awvalid = 0, m_wdata = 0, m_wstrb = 0, m_wvalid = 0, m_bready = 1, m_araddr = 0, m_arvalid = 0;
-assign m_rready = 1;
-reg x; always @(posedge clk) x <= 0;
-endmodule
-"""
-MASTERED = "beat 8\naw m_aw 0 1 2 none none\nw m_w none\nb m_b 0\nar m_ar none 0 none none none\nr m_r none none\n"
-ONE_BEAT = "# m_ar has no LEN: each burst is one beat\n"
-MEMORIES = [
-    ((39, 7), "memory 65536\ndata 0 1 1\n" + ONE_BEAT), ((9, 7), "memory 128\ndata 0 1 1\n" + ONE_BEAT),
-    ((9, 3), ONE_BEAT + "# no memory serves it: vidi serve wants a strobe of 8 bits in m_w, and data in m_w and m_r\n")]
 PORTS = [("m_", "beat 8\naw m_aw 0 1 2 3 4\nw m_w 1\nb m_b 0\n"),
          ("s_", "beat 4\nar s_ar none 0 1 none none\nr s_r none 1\n# s_arlen_i has 4 bits, and LEN has 8: vidi bursts refuses it\n")]
 
@@ -74,11 +60,6 @@ def check_axi_map(checker):
     for front, wanted in PORTS:
         checker.run("map", "--axi", "two.axi", "--bus", front, "two.v", "two")
         checker.case(f"map --axi --bus {front}", tool_kit.text_of(os.path.join(checker.folder, "two.axi")), wanted)
-    for (most, lanes), lines in MEMORIES:
-        checker.write("master.v", MASTER.format(most=most, lanes=lanes))
-        checker.run("map", "-o", "map", "--axi", "master.axi", "master.v", "master")
-        checker.case(f"map --axi of a manager with addresses of {most + 1} bits", tool_kit.text_of(os.path.join(checker.folder, "master.axi")),
-                     MASTERED + lines)
     fifo = os.path.abspath(os.path.join(tool_kit.EXAMPLES, "fifo", "found.v"))
     checker.refused("map --axi of no AXI4 port", ["map", "--axi", "no.axi", fifo, "fifo"],
                     "map: no AXI file: no channels with AXI4's names (awvalid wvalid bvalid, arvalid rvalid)", "no.axi")

@@ -41,14 +41,13 @@ def compared(what, got, wanted):
 
 class Folder:
     """A folder with a design and its map, in Icarus."""
-    simulator = icarus_rows.Design
 
     def __init__(self, path, texts):
         self.path = path
         for name, text in texts.items():
             self.write(name, text)
         self.plan = icarus_rows.Map(self.file("map"))
-        self.design = self.simulator(self.file("design.v"), self.plan, path)
+        self.design = icarus_rows.Design(self.file("design.v"), self.plan, path)
         self.widths = self.design.widths
 
     def file(self, name):

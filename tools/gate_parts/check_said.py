@@ -3,7 +3,6 @@ import json
 import os
 import re
 
-from gate_parts import serve_cases
 from vidi_tools import commands
 from vidi_tools import tool_kit
 
@@ -50,41 +49,16 @@ SAID = [  # what is written to which file, the command, and the sentence
     ({}, "run design.v map", "run takes 3 words, DESIGN MAP SCRIPT, and 2 stand there"),
     ({}, "replay design.v map notes 60000 out", "CYCLES is 60000, and 1 to 50000 is lawful"),
     ({}, "wrap design.v map map", "map would be read and written: name another file for OUT"),
-    ({}, "go", "the commands are check, run, wave, value, record, replay, serve, dump, compare, salvage, migrate, bursts, move, wrap, "
-     "sample; say --help lists their words"),
+    ({}, "go", "the commands are check, run, record, replay, dump, compare, salvage, migrate, bursts, move, wrap, sample; say --help lists their words"),
     ({}, "record design.v map script stalls none/out", "none/out wasn't written: there is no folder {folder}/none")]
 
 
 TRACE = "VIDITRC2\2\0\1a\1\x08\1\1b\1\x08"
-MANY = "module many(input clk, input a_v, output a_r);\nassign a_r = a_v;\n" + "".join(f"wire w{at} = a_v;\n" for at in range(100)) + "endmodule\n"
-WAVE = """$timescale 1 ns $end
-$scope module flick $end
-$var wire 1 ! clk $end
-$var wire 1 " b_v $end
-$var wire 1 # b_r $end
-$var wire 1 $ t $end
-$upscope $end
-$enddefinitions $end
-#0
-0!
-0"
-1#
-0$
-#1
-1"
-1$
-#2
-"""
-MASTERED = {name: (None, text) for name, text in (
-    ("mgr.v", serve_cases.MGR), ("mgr.map", serve_cases.MAP), ("stalls", serve_cases.STALLS), ("sized", serve_cases.LINES + serve_cases.SIZE),
-    ("placed", serve_cases.LINES + serve_cases.PLACES), ("far", serve_cases.AXI.replace("w w", "w x")),
-    ("same", serve_cases.AXI.replace("data 0 1 0", "data 1 1 0")), ("script", "cycles 3\n"))}
 # The same of commands that come later: the command, what is written to which file, its words, and the sentence.
 LATER = [
     ("bursts", {"axi": (None, "beat 3\n")}, "bursts head.trace axi",
      "axi line 1, `beat 3`, is no line of an AXI file: beat N first, then aw CH ID ADDR LEN SIZE BURST, w CH LAST, b CH ID, ar CH ID ADDR LEN SIZE BURST, r "
-     "CH ID LAST, each once, with places from 0 or none; aw, w and b come together, and so do ar and r; for serve memory WORDS, 1 to 65,536, and data WDATA "
-     "WSTRB RDATA, with all five"),
+     "CH ID LAST, each once, with places from 0 or none; aw, w and b come together, and so do ar and r"),
     ("bursts", {"axi": (None, "beat 4\nar c none 0 none none none\nr b none none\n")}, "bursts head.trace axi",
      "axi line 2, `ar c none 0 none none none`: the trace has no channel c; it has a, b"),
     ("bursts", {"axi": (None, "beat 4\nar a none 1 none none none\nr b none none\n")}, "bursts head.trace axi",
@@ -98,20 +72,7 @@ LATER = [
     ("bursts", {"axi": (None, "beat 4\nar a none 0 none none none\nr b none none\n")}, "bursts short.trace axi",
      "short.trace breaks rule 4 of AXI4's bursts at transaction 0 of b, counted from 0: vidi-tools explain --axi says why"),
     ("move", {}, "move short.trace b 0 before b 1 out", "short.trace hasn't so many completions of that channel: they count from 0, over the whole trace"),
-    ("move", {}, "move short.trace b 0 before b 0 out", "both are one completion of short.trace: name another one"),
-    ("wave", {"many.v": (None, MANY), "many.map": (None, "top many\nclock clk\nin a a_v a_r\n"), "long": (None, "cycles 50000\n")},
-     "wave many.v many.map long out", "long asks for more than 4,194,304 numbers, one of each net and cycle: write cycles 40721 at most"),
-    ("value", {"wave": (None, WAVE)}, "value wave u 1", "wave has no such net: it has clk, b_v, b_r, t"),
-    ("value", {"wave": (None, WAVE)}, "value wave t 2", "wave has 2 cycles, and they count from 0"),
-    ("value", {"wave": (None, WAVE[:-3])}, "value wave t 1", "wave isn't a wave as vidi wave writes it, or isn't whole"),
-    ("value", {"wave": (None, WAVE)}, "value wave t 4294967296", "CYCLE is 4294967296, and 0 to 4294967295 is lawful"),
-    ("serve", MASTERED, "serve mgr.v mgr.map sized stalls 8 out",
-     "sized doesn't say where data stand: write data WDATA WSTRB RDATA, places in w, w and r from 0"),
-    ("serve", MASTERED, "serve mgr.v mgr.map placed stalls 8 out", "placed doesn't say how large the memory is: write memory WORDS, 1 to 65536"),
-    ("serve", MASTERED, "serve mgr.v mgr.map far stalls 8 out", "far line 3, `w x none`: the map has no channel x; it has aw, w, b, ar, r"),
-    ("serve", MASTERED, "serve mgr.v mgr.map same stalls 8 out", "same line 8, `data 1 1 0`: each is a place in w, w and r that no other word has, with the "
-     "bits of a beat, a bit for each of its bytes, and the bits of a beat"),
-    ("serve", MASTERED, "serve mgr.v mgr.map script stalls 8 out", "script looks like a script, and a axi is wanted there: are script and axi exchanged?")]
+    ("move", {}, "move short.trace b 0 before b 0 out", "both are one completion of short.trace: name another one")]
 
 
 def check_say_later(checker):
@@ -142,8 +103,7 @@ def check_say(checker):
         checker.case(f"say {words}", checker.run("say", *words.split()), checker.run("vidi", *words.split()))
     said, status = checker.run("say", "--help")
     commands = re.findall(r"^  vidi (\w+) ", said, re.M)
-    checker.case("say --help", (commands, status), ("check run wave value record replay serve dump compare salvage migrate bursts move wrap "
-                                                    "sample".split(), 0))
+    checker.case("say --help", (commands, status), ("check run record replay dump compare salvage migrate bursts move wrap sample".split(), 0))
     checker.case("say without words", checker.run("say"), (said, 1))
 
 

@@ -23,8 +23,7 @@ import tempfile
 TOP = pathlib.Path(__file__).resolve().parent.parent.parent
 SURFACE = ('vidi_bits vidi_io vidi_lines vlog_lex vlog_tree vlog_parse vlog_print vlog_size net_design vlog_block vlog_driver vlog_elab vlog_design '
            'net_order net_sim chan_map script_text env_script bench_run trace_model trace_code trace_v2 vec_clock room_ledger chan_monitor '
-           'trace_store vidi_recorder chan_replayer replay_run trace_compare shim_gen shim_cosim report_text sample_gen axi_burst trace_edit axi_memory '
-           'wave_text vcd_wave vidi_commands vidi_laws').split()
+           'trace_store vidi_recorder chan_replayer replay_run trace_compare shim_gen shim_cosim report_text sample_gen vidi_commands vidi_laws').split()
 TOKEN = re.compile(r"""(?P<space>\s+|//[^\n]*|/\*.*?\*/)|(?P<text>b?"(?:\\.|[^"\\])*"|b?'(?:\\.|[^'\\])'|'\w+)|(?P<word>[\w◌∙]+)|(?P<sign>.)""", re.S)
 NAME = r"[A-Za-zℕℤ_][\w']*(?:-[\w']+)*"
 CLAUSES = ('requires', 'ensures')

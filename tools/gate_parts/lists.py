@@ -64,7 +64,7 @@ def options_of(command):
 
 def words_of(command):
     """The words of a command of vidi."""
-    return re.sub("STALLS (CYCLES )?OUT", r"STALLS \1TRACE", command.words.upper())
+    return command.words.upper().replace("STALLS OUT", "STALLS TRACE")
 
 
 def man_page():

@@ -2,13 +2,13 @@
 
     gate mutate [--count N] [--seed S] [--only COMMAND] [--keep FOLDER]
 
-N inputs a command (10,000 where nothing is said) for check, run, wave, value, record, replay, serve, dump, compare, salvage, migrate and wrap. Each is
-made of the files of an example or of a design of `make random`, of serve of one of `make managers`: in one or more of the files that the command
-reads, bytes are changed, cut or doubled and lines or words exchanged, one to four times; to one trace in five a reset is added before. Wrong is: an
-end by a signal, more than a second of processor time three times (or 20 seconds by the clock), anything on the standard error, an exit number other
-than 0, 4, 5, 6 and 7 (the words are always a command, and its files are there), lines that aren't those of the exit number, a file beside the one to
-be written, that one after a refusal, and an OUT that `vidi dump` (of wave: `vidi value`; of wrap: `vidi check`, with both tops) doesn't take. The
-same seed tries the same inputs. It says how often each command ended how.
+N inputs a command (10,000 where nothing is said) for check, run, record, replay, dump, compare, salvage, migrate and wrap. Each is made of the files of
+an example or of a design of `make random`: in one or more of the files that the command reads, bytes are changed, cut or doubled and lines or
+words exchanged, one to four times; to one trace in five a reset is added before. Wrong is: an end by a signal, more than a second of processor
+time three times (or 20 seconds by the clock), anything on the standard error, an exit number other than 0, 4, 5, 6 and 7 (the words are always a
+command, and its files are there), lines that aren't those of the exit number, a file beside the one to be written, that one after a refusal, and
+an OUT that `vidi dump` (of `wrap`: `vidi check`, with both tops) doesn't take. The same seed tries the same inputs. It says how often each
+command ended how.
 """
 import argparse
 import collections
@@ -21,17 +21,13 @@ import subprocess
 import sys
 import tempfile
 
-from make_kinds import managers
 from make_kinds import random_design
-from vidi_tools import commands
 from vidi_tools import tool_kit
 from vidi_tools import trace_kit
-from vidi_tools import wave_kit
 from vidi_tools.tool_kit import Problem
 
 COMMANDS = {
-    "check": (["design"], None), "run": (["design", "map", "script"], None), "wave": (["design", "map", "script"], "out"), "value": (["wave"], None),
-    "serve": (["design", "map", "axi", "stalls"], "out"), "record": (["design", "map", "script", "stalls"], "out"),
+    "check": (["design"], None), "run": (["design", "map", "script"], None), "record": (["design", "map", "script", "stalls"], "out"),
     "replay": (["design", "map", "trace"], "out"), "dump": (["trace"], None), "compare": (["trace", "other"], None),
     "salvage": (["trace"], "out"), "migrate": (["old"], "out"), "wrap": (["design", "map"], "out"),
 }
@@ -43,14 +39,10 @@ DESIGN = rb"|".join([
 MAP = rb"M1 line N|M2 port line N|M3 cover X times N|M4 limit (?:channels|ports|bytes) got N|too long, limit 4194304"
 SCRIPT = rb"S1 line N|S2 channel line N|S3 number line N|too long, limit 4194304"
 STALLS = rb"P1 line N|too small need N given N|too long, limit 4194304"
-AXI = rb"A1 line N|A2 port line N|serve (?:memory|data|channels|side)|too long, limit 4194304"
-WAVE = rb"bad wave|no net|no cycle, cycles N|too long, limit 1073741824"
 TRACE = rb"old trace|bad trace at N|too long, limit 134217728"
 REFUSED = {
     "check": {"design": DESIGN}, "run": {"design": DESIGN, "map": MAP, "script": SCRIPT},
     "record": {"design": DESIGN, "map": MAP, "script": SCRIPT, "stalls": STALLS},
-    "wave": {"design": DESIGN, "map": MAP, "script": SCRIPT + rb"|wave too long nets N cycles N"}, "value": {"wave": WAVE},
-    "serve": {"design": DESIGN, "map": MAP, "axi": AXI, "stalls": STALLS},
     "replay": {"design": DESIGN, "map": MAP, "trace": TRACE + rb"|other channels at N"}, "dump": {"trace": TRACE},
     "compare": {"trace": TRACE, "other": TRACE + rb"|other channels at N"}, "salvage": {"trace": rb"bad trace at 0|too long, limit 134217728"},
     "migrate": {"trace": rb"bad trace at N|too long, limit 67108864"},
@@ -62,8 +54,6 @@ UNSTABLE = rb"vidi: unstable CH cycle N\n"
 SAID = {
     ("check", 0): rb"modules N items N\ninstances N nets N drivers N blocks N words N\n",
     ("run", 0): EVENTS + rb"cycles N\n", ("run", 5): EVENTS + UNSTABLE,
-    ("wave", 0): rb"waved N cycles N nets\n", ("wave", 5): UNSTABLE, ("value", 0): rb"N\n",
-    ("serve", 0): rb"recorded N cycles N packets\n", ("serve", 5): UNSTABLE,
     ("record", 0): rb"recorded N cycles N packets\n", ("record", 5): UNSTABLE,
     ("replay", 0): rb"replayed N cycles, no divergence\n", ("replay", 5): UNSTABLE, ("replay", 7): FINDINGS,
     ("replay", 6): rb"short after N cycles\n(?:epoch N\n)?(?:held (?:CH (?:start|end)|reset) N\n(?:awaits CH have N need N\n)+)*"
@@ -132,10 +122,9 @@ def with_reset(draw, content):
 
 class Base:
     """The files of a design from which inputs are made."""
-    cycles = ["1", "5", "60", "300"]
 
     def __init__(self, vidi, texts, folder):
-        self.top, self.asked = re.search(r"^top (\S+)", texts["map"], re.M)[1], ["clk"]
+        self.top = re.search(r"^top (\S+)", texts["map"], re.M)[1]
         self.files = {name: texts[file].encode() for name, file in (("design", "design.v"), ("map", "map"), ("script", "script"), ("stalls", "stalls"))}
         for name, content in self.files.items():
             tool_kit.write(os.path.join(folder, name), content)
@@ -148,26 +137,6 @@ class Base:
                 self.files[name] = file.read()
             os.remove(os.path.join(folder, name))
         self.files["old"] = trace_kit.encoded_old(trace_kit.read(self.files["trace"]))
-        self.wave(vidi, folder)
-
-    def wave(self, vidi, folder):
-        """The wave of the run, and the names of its nets."""
-        subprocess.run([vidi, "wave", "design", "map", "script", "wave"], cwd=folder, capture_output=True)
-        path = os.path.join(folder, "wave")
-        if os.path.exists(path):
-            with open(path, "rb") as file:
-                self.files["wave"] = file.read()
-            self.asked = wave_kit.names_of(path)
-            os.remove(path)
-
-
-class Mastered:
-    """The files of a design that masters a memory."""
-
-    def __init__(self, seed):
-        texts = managers.made(seed)
-        self.top, self.cycles = re.search(r"^top (\S+)", texts["map"], re.M)[1], [texts["cycles"].strip()]
-        self.files = {name: texts[file].encode() for name, file in (("design", "design.v"), ("map", "map"), ("axi", "axi"), ("stalls", "stalls"))}
 
 
 def bases(vidi, folder):
@@ -177,7 +146,7 @@ def bases(vidi, folder):
         paths = {file: os.path.join(tool_kit.EXAMPLES, name, file) for file in ("design.v", "map", "script", "stalls")}
         texts = {file: tool_kit.text_of(path) if os.path.exists(path) else "capacity 40\n" for file, path in paths.items()}
         found.append(Base(vidi, texts, folder))
-    return found + [Base(vidi, random_design.made(seed), folder) for seed in range(1, 31)] + [Mastered(seed) for seed in range(1, 31)]
+    return found + [Base(vidi, random_design.made(seed), folder) for seed in range(1, 31)]
 
 
 class Tried:
@@ -193,9 +162,7 @@ class Tried:
         for _ in range(draw.choice([1, 1, 1, 1, 2, 2, 3, 4])):
             name = draw.choice(self.reads)
             self.files[name] = changed(draw, self.files[name])
-        cycles = draw.choice(base.cycles)
-        middle = {"check": [base.top], "replay": [cycles], "serve": [cycles]}.get(command, [])
-        middle = [draw.choice(base.asked), str(draw.choice([0, 1, 5, 60, 1 << 20]))] if command == "value" else middle
+        middle = {"check": [base.top], "replay": [str(draw.choice([1, 5, 60, 300]))]}.get(command, [])
         self.words = [command, *self.reads, *middle, *([self.out] if self.out else [])]
 
     def run(self, folder):
@@ -243,25 +210,18 @@ class Tried:
             return f"ends with {self.status} and leaves {sorted(there)}"
         if not there:
             return None
-        for words in self.looks():
+        looks = [["check", self.out, f"vidi_{kind}_top"] for kind in ("record", "replay")] if self.command == "wrap" else [["dump", self.out]]
+        for words in looks:
             done = subprocess.run([self.vidi, *words], cwd=folder, capture_output=True, timeout=20)
-            if done.returncode and not done.stdout.startswith((b"vidi: refused wave: no net", b"vidi: refused wave: no cycle")):
+            if done.returncode:
                 return f"vidi {' '.join(words)} of what it wrote ends with {done.returncode}: {done.stdout[:200]!r}"
         return None
-
-
-    def looks(self):
-        """The words that have vidi read what it wrote."""
-        if self.command == "wrap":
-            return [["check", self.out, f"vidi_{kind}_top"] for kind in ("record", "replay")]
-        return [["value", self.out, "clk", "0"] if self.command == "wave" else ["dump", self.out]]
 
 
 def tried(options, command, found, seed):
     """Tries the inputs of a command. Gives the counts of how they ended, the longest time, and what was wrong."""
     ends, longest, wrong = collections.Counter(), 0.0, []
     draw = random.Random(f"{seed} {command}")
-    found = [base for base in found if set(COMMANDS[command][0]) <= set(base.files)]
     for at in range(options.count):
         with tempfile.TemporaryDirectory() as folder:
             one = Tried(tool_kit.wanted_program(), command, draw.choice(found), draw)
@@ -288,7 +248,7 @@ def main():
     faults = 0
     with tempfile.TemporaryDirectory() as folder:
         found = bases(tool_kit.wanted_program(), folder)
-    for command in [options.only] if options.only else filter(commands.has, COMMANDS):
+    for command in [options.only] if options.only else COMMANDS:
         ends, longest, wrong = tried(options, command, found, options.seed)
         faults += len(wrong)
         print(*wrong[:20], sep="\n", end="\n" if wrong else "")

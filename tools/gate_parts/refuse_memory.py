@@ -2,11 +2,11 @@
 
     gate memory [EXAMPLE ..] [--only COMMAND] [--most N]
 
-The commands are check, run, wave, value, record, replay, serve, dump, compare, salvage, migrate and wrap on the files of these examples (pass where
-none is named), and for serve on those of a design of `make managers`. Each is first run whole, and its allocations are counted; then it is run twice
-for each of them: that one is refused, and that one with all behind it. The answer has to be the right one, with its status, its lines and its file,
-or status 8 with the line `vidi: out of memory` (or without a line where the words weren't there yet), and no file. With --most N so many allocations
-a command are tried at most, spread evenly. It wants a C compiler for the library that refuses, which stands before the C library's allocator.
+The commands are check, run, record, replay, dump, compare, salvage, migrate and wrap on the files of these examples (pass where none is named). Each is
+first run whole, and its allocations are counted; then it is run twice for each of them: that one is refused, and that one with all behind it. The
+answer has to be the right one, with its status, its lines and its file, or status 8 with the line `vidi: out of memory` (or without a line where
+the words weren't there yet), and no file. With --most N so many allocations a command are tried at most, spread evenly. It wants a C compiler for
+the library that refuses, which stands before the C library's allocator.
 """
 import argparse
 import os
@@ -15,8 +15,6 @@ import subprocess
 import sys
 import tempfile
 
-from make_kinds import managers
-from vidi_tools import commands
 from vidi_tools import tool_kit
 from vidi_tools import trace_kit
 from vidi_tools.tool_kit import Problem
@@ -50,11 +48,8 @@ int posix_memalign(void **to, size_t align, size_t size) {
   return found ? 0 : 12;
 }
 """
-MASTERED = "mastered"
 COMMANDS = {
-    "check": ["design.v", "TOP"], "run": ["design.v", "map", "script"], "wave": ["design.v", "map", "script", "out"], "value": ["wave", "CLOCK", "0"],
-    "serve": [f"{MASTERED}/{name}" for name in ("design.v", "map", "axi", "stalls")] + ["CYCLES", "out"],
-    "record": ["design.v", "map", "script", "stalls", "out"],
+    "check": ["design.v", "TOP"], "run": ["design.v", "map", "script"], "record": ["design.v", "map", "script", "stalls", "out"],
     "replay": ["design.v", "map", "trace", "300", "out"], "dump": ["trace"], "compare": ["trace", "other"], "salvage": ["broken", "out"],
     "migrate": ["old", "out"], "wrap": ["design.v", "map", "out"],
 }
@@ -88,14 +83,9 @@ class Room:
         self.write("wide", b"capacity 65536\n")
         stalls = os.path.join(EXAMPLES, name, "stalls")
         self.write("stalls", open(stalls, "rb").read() if os.path.exists(stalls) else b"capacity 40\ndrain 3 2\n")
-        plan, mastered = tool_kit.Map(os.path.join(folder, "map")), managers.made(1)
-        os.mkdir(os.path.join(folder, MASTERED))
-        for file, text in mastered.items():
-            self.write(f"{MASTERED}/{file}", text)
-        self.words = {"TOP": plan.top, "CLOCK": plan.clock, "CYCLES": mastered["cycles"].strip()}
+        self.top = tool_kit.Map(os.path.join(folder, "map")).top
         for plan, file in (("stalls", "trace"), ("wide", "other")):
             self.run(["record", "design.v", "map", "script", plan, file], {})
-        self.run(["wave", "design.v", "map", "script", "wave"], {})
         with open(os.path.join(folder, "trace"), "rb") as file:
             content = file.read()
         self.write("broken", content[:-7])
@@ -125,7 +115,7 @@ class Room:
 
 def tried(room, command, most):
     """Tries the allocations of a command. Gives how many there are and were tried, how often each answer came, and what was wrong."""
-    words = [command, *(room.words.get(word, word) for word in COMMANDS[command])]
+    words = [command, *(room.top if word == "TOP" else word for word in COMMANDS[command])]
     right, count = room.count(words)
     if count < 5:
         raise Problem(f"{room.vidi} takes its memory elsewhere: {count} allocations are seen")
@@ -163,7 +153,7 @@ def main():
         for name in options.examples:
             with tempfile.TemporaryDirectory() as place:
                 room = Room(vidi, place, name, refuser)
-                for command in [options.only] if options.only else filter(commands.has, COMMANDS):
+                for command in [options.only] if options.only else COMMANDS:
                     count, many, same, lacking, wrong = tried(room, command, options.most)
                     faults += len(wrong)
                     print(*(f"{command} of {name}: {line}" for line in wrong[:10]), sep="\n", end="\n" if wrong else "")

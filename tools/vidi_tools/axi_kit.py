@@ -1,5 +1,5 @@
-"""The AXI file of `vidi bursts` and `vidi serve`, and AXI4's rules on bursts, read from the sentences of AMBA AXI4 (IHI 0022, A3.3, A3.4, A5.3)
-over a trace: a reader beside Vidi's own, which also says why."""
+"""The AXI file of `vidi bursts`, and AXI4's rules on bursts, read from the sentences of AMBA AXI4 (IHI 0022, A3.3, A3.4, A5.3) over a trace: a
+reader beside Vidi's own, which also says why."""
 from vidi_tools import tool_kit
 from vidi_tools.tool_kit import Problem
 
@@ -10,7 +10,6 @@ MOST = {"ADDR": 64, "ID": 32}
 FIXED, INCR, WRAP, RESERVED = range(4)
 KINDS = ("FIXED", "INCR", "WRAP", "BURST 3")
 BLOCK = 4_096
-MOST_WORDS = 65_536
 SHOWN = 6
 
 
@@ -26,11 +25,10 @@ class Port:
 
 
 class AxiFile:
-    """The lines of an AXI file: the bytes of a beat, the ports by role, and of a memory its words and the places of its data, or None. Its form is
-    checked here, and its channels by Vidi."""
+    """The lines of an AXI file. Its form is checked here, and its channels by `vidi bursts`."""
 
     def __init__(self, path, text=None):
-        self.beat, self.ports, self.words, self.data = None, {}, None, None
+        self.beat, self.ports = None, {}
         for line, content in enumerate((tool_kit.text_of(path) if text is None else text).split("\n"), 1):
             words = content.split("#")[0].split()
             if words and not self.takes(*words):
@@ -45,10 +43,6 @@ class AxiFile:
             self.beat = numbers[0]
         elif self.beat and role in WORDS and role not in self.ports and len(words) == 1 + len(WORDS[role]) and "none" not in words[:1]:
             self.ports[role] = Port(role, words[0], dict(zip(WORDS[role], numbers[1:])))
-        elif self.beat and role == "memory" and len(words) == 1 and self.words is None and numbers[0] in range(1, MOST_WORDS + 1):
-            self.words = numbers[0]
-        elif self.beat and role == "data" and len(words) == 3 and self.data is None and None not in numbers:
-            self.data = numbers
         else:
             return False
         return True

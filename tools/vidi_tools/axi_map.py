@@ -1,4 +1,4 @@
-"""Makes the AXI file of `vidi bursts` and `vidi serve` beside a first map: the channels whose ports have AXI4's names (AMBA AXI4 IHI 0022, A2)."""
+"""Makes the AXI file of `vidi bursts` beside a first map: the channels whose ports have AXI4's names (AMBA AXI4 IHI 0022, A2)."""
 import re
 
 from vidi_tools import axi_kit
@@ -6,7 +6,6 @@ from vidi_tools.tool_kit import Problem
 
 VALID = re.compile(r"(.*?)(aw|ar|w|b|r)_?(valid|vld|v)")
 WRITES, READS = ("aw", "w", "b"), ("ar", "r")
-ROLES = WRITES + READS
 
 
 def plain(name):
@@ -58,20 +57,7 @@ def notes_of(port, contents, widths):
         yield f"{port.channel} has no LEN: each burst is one beat"
 
 
-def memory_lines(front, roles, widths, sides):
-    """The lines of a memory for a design that masters one by all five channels, or what is to look at: as many words as it can ask for."""
-    if set(roles) != set(ROLES) or sides[roles["aw"][0]] != "output":
-        return [], []
-    beat, (_, addresses) = bus_bytes(front, roles, widths), roles["aw"]
-    places = [place_of(front, role, word, roles[role][1]) for role, word in (("w", "DATA"), ("w", "STRB"), ("r", "DATA"))]
-    strobe = None if places[1] is None else widths[roles["w"][1][places[1]]]
-    if None in places or strobe != beat:
-        return [], [f"no memory serves it: vidi serve wants a strobe of {beat} bits in {roles['w'][0]}, and data in {roles['w'][0]} and {roles['r'][0]}"]
-    words = (1 << widths[addresses[place_of(front, "aw", "ADDR", addresses)]]) // beat
-    return [f"memory {max(1, min(words, axi_kit.MOST_WORDS))}", "data " + " ".join(map(str, places))], []
-
-
-def lines_of(front, roles, widths, sides):
+def lines_of(front, roles, widths):
     """The lines of the AXI file, with what is to look at as comments."""
     lines, notes = [f"beat {bus_bytes(front, roles, widths)}"], []
     kept = [role for own in (WRITES, READS) if set(own) <= set(roles) for role in own]
@@ -81,8 +67,6 @@ def lines_of(front, roles, widths, sides):
         lines.append(port.line())
         notes += notes_of(port, contents, widths)
     notes += [f"{roles[role][0]} is left out: the channels of its side aren't all there" for role in roles if role not in kept]
-    memory, more = memory_lines(front, roles, widths, sides)
-    lines, notes = lines + memory, notes + more
     return lines + [f"# {note}" for note in notes]
 
 
@@ -94,5 +78,4 @@ def text_of(channels, widths, wanted):
         names = ", ".join(f"--bus {front or repr('')}" for front in buses)
         raise Problem("no AXI file: no channels with AXI4's names (awvalid wvalid bvalid, arvalid rvalid)" if not buses else
                       f"an AXI file is of one port: say {names}")
-    sides = {name: side for name, side, *_ in channels}
-    return "\n".join(lines_of(own[0], buses[own[0]], widths, sides)) + "\n"
+    return "\n".join(lines_of(own[0], buses[own[0]], widths)) + "\n"

@@ -8,15 +8,12 @@ class Command:
         self.name, self.words, self.what, self.module = name, words, what, module
 
 
-# Names of files in small letters are read, and named so in a refusal; OUT and TRACE of `record` and `serve` are written.
+# Names of files in small letters are read, and named so in a refusal; OUT and TRACE of `record` are written.
 VIDI = [Command(*one) for one in (
     ("check", "design TOP", "counts a design's parts, or refuses it with a reason"),
     ("run", "design map script", "plays it and prints each start, content and end"),
-    ("wave", "design map script OUT", "plays it, and writes the waves of all its nets"),
-    ("value", "wave NAME CYCLE", "prints the number that a net has in a cycle of such waves"),
     ("record", "design map script stalls OUT", "does so behind the store, and writes the trace"),
     ("replay", "design map trace CYCLES OUT", "plays a trace again, and says where the design parts from it"),
-    ("serve", "design map axi stalls CYCLES OUT", "records a design that masters an AXI4 memory, with a memory"),
     ("dump", "trace", "lists channels, events, contents, vector clocks"),
     ("compare", "trace other", "says where OTHER parts from TRACE"),
     ("salvage", "trace OUT", "writes what is whole of a broken trace"),

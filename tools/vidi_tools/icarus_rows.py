@@ -109,31 +109,21 @@ def from_zero(text):
 
 
 class Design:
-    """The design as Icarus runs it, from its initial state on; beside the bench may stand other modules on top, of the text `beside`."""
-    beside, tops = "", ["bench"]
+    """The design as Icarus runs it, from its initial state on."""
 
     def __init__(self, path, plan, folder):
         source, program = os.path.join(folder, "bench.sv"), os.path.join(folder, "bench.vvp")
-        open(source, "w").write(from_zero(open(path).read()) + "\n`default_nettype wire\n" + bench(plan) + self.beside)
-        tops = [word for top in self.tops for word in ("-s", top)]
-        built = subprocess.run(["iverilog", "-g2012", *tops, "-o", program, source], capture_output=True, text=True)
+        open(source, "w").write(from_zero(open(path).read()) + "\n`default_nettype wire\n" + bench(plan))
+        built = subprocess.run(["iverilog", "-g2012", "-s", "bench", "-o", program, source], capture_output=True, text=True)
         if built.returncode:
             sys.exit(built.stderr)
         self.begin(program, plan)
 
-    def words(self):
-        """The words of the program that Icarus made."""
-        return []
-
-    def line(self):
-        """A line of the bench."""
-        return self.run.stdout.readline()
-
     def begin(self, program, plan):
         """Runs the program, which prints the widths first."""
-        self.run = subprocess.Popen(["vvp", "-n", program, *self.words()], stdin=subprocess.PIPE, stdout=subprocess.PIPE, stderr=subprocess.DEVNULL, text=True)
+        self.run = subprocess.Popen(["vvp", "-n", program], stdin=subprocess.PIPE, stdout=subprocess.PIPE, stderr=subprocess.DEVNULL, text=True)
         self.program, self.plan = program, plan
-        widths = iter(map(int, self.line().split()))
+        widths = iter(map(int, self.run.stdout.readline().split()))
         self.widths = {name: [next(widths) for _ in ports] for name, *_, ports in plan.channels}
 
     def close(self):
@@ -160,7 +150,7 @@ class Design:
         """The outputs under these pins, all others 0; then the clock rises."""
         self.run.stdin.write(" ".join("%x" % pins.get(name, 0) for name in self.plan.inputs) + "\n")
         self.run.stdin.flush()
-        return dict(zip(self.plan.outputs, map(int, self.line().split())))
+        return dict(zip(self.plan.outputs, map(int, self.run.stdout.readline().split())))
 
 
 class Player:

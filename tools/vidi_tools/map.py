@@ -269,7 +269,7 @@ def parser():
     said.add_argument("-o", dest="out", metavar="OUT", help="write the map to OUT and not to standard output")
     said.add_argument("--script", metavar="OUT", help="write a first script to OUT")
     said.add_argument("--stalls", metavar="OUT", help="write a first plan of stalls to OUT")
-    said.add_argument("--axi", metavar="OUT", help="write the AXI file of vidi bursts and vidi serve to OUT")
+    said.add_argument("--axi", metavar="OUT", help="write the AXI file of vidi bursts to OUT")
     said.add_argument("--bus", metavar="FRONT", help="what the names of that AXI4 port begin with, where there are several")
     said.add_argument("--check", metavar="MAP", help="try the reset's polarity of this map, and make none")
     said.add_argument("files", metavar="FILES", nargs="+")

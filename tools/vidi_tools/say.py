@@ -14,11 +14,9 @@ from vidi_tools import axi_kit
 from vidi_tools import commands
 from vidi_tools import tool_kit
 from vidi_tools import trace_kit
-from vidi_tools import wave_kit
 
 COMMANDS = {one.name: one.words for one in commands.VIDI}
-LAWFUL = {"CYCLES": "1 to 50000", "CYCLE": "0 to 4294967295", "NUMBER": "0 to 6000", "J": "0 to 4294967295", "K": "0 to 4294967295"}
-SHOWN, MOST_NUMBERS = 20, 4_194_304
+LAWFUL = {"CYCLES": "1 to 50000", "NUMBER": "0 to 6000", "J": "0 to 4294967295", "K": "0 to 4294967295"}
 LOWER = "vidi-tools left-out {path} lists all such places, and vidi-tools lower makes a text of the subset"
 # Each reason, and what to do about it: {path} is the file's name, {place} its line and the text of that, {at} the
 # same with a comma, {0}, {1} what the reason names, and {fault} is
@@ -53,22 +51,13 @@ ADVICE = [
     ("S3 ", "{place}: {fault}"),
     ("P1 ", "{at} is no line of a plan: capacity N first (1 to 16,777,216), then drain B K or drain all K, with K from 1 to 50,000"),
     ("too small need (.*) given (.*)", "{path} has a capacity of {1} bytes, and a start and an end of each channel need {0}: write capacity {0}"),
-    ("wave too long", "{path} asks for more than 4,194,304 numbers, one of each net and cycle: write {fault}"),
     ("too long, limit (.*)", "{path} has more than {0} bytes: make it shorter"),
     ("old trace", "{path} is an old trace, of version 1: vidi migrate {path} OUT writes it in today's bytes"),
     ("bad trace at (.*)", "{fault}"),
     ("reset in packet (.*)", "in {path} the design was reset in packet {0}, and this command takes no trace with a reset"),
     ("A1 ", "{at} is no line of an AXI file: beat N first, then aw CH ID ADDR LEN SIZE BURST, w CH LAST, b CH ID, ar CH ID ADDR LEN SIZE BURST, r CH ID "
-            "LAST, each once, with places from 0 or none; aw, w and b come together, and so do ar and r; for serve memory WORDS, 1 to 65,536, and data "
-            "WDATA WSTRB RDATA, with all five"),
+            "LAST, each once, with places from 0 or none; aw, w and b come together, and so do ar and r"),
     ("A2 ", "{place}: {fault}"),
-    ("serve memory", "{path} doesn't say how large the memory is: write memory WORDS, 1 to 65536"),
-    ("serve data", "{path} doesn't say where data stand: write data WDATA WSTRB RDATA, places in w, w and r from 0"),
-    ("serve channels", "{path} has no line for a channel of the map: a design with a memory has aw, w, b, ar and r, and no other channel"),
-    ("serve side", "{path}: aw goes into the design, so it is asked and doesn't ask: play it by a script, with record"),
-    ("bad wave", "{path} isn't a wave as vidi wave writes it, or isn't whole"),
-    ("no net", "{path} has no such net: {fault}"),
-    ("no cycle, cycles (.*)", "{path} has {0} cycles, and they count from 0"),
     ("broken rule (.*) (.*) (.*)", "{path} breaks rule {0} of AXI4's bursts at transaction {2} of {1}, counted from 0: vidi-tools explain --axi says why"),
     ("no end (.*)", "{path} hasn't so many completions of that channel: they count from 0, over the whole trace"),
     ("same end", "both are one completion of {path}: name another one"),
@@ -168,36 +157,20 @@ def is_trace(content):
         return False
 
 
-def widths_of(files):
-    """The widths of the content ports by channel, of the trace; or of the map, which doesn't have them, a None for each port."""
-    if "trace" in files:
-        return {table.name: table.widths for table in trace_kit.read_file(files["trace"]).channels}
-    return {one.name: [None] * len(one.ports) for one in plan_of(files["map"]).channels}
-
-
 def axi_fault(files, words):
     """What is wrong with a line of an AXI file."""
     role, name, *places = words
-    if role == "data":
-        return "each is a place in w, w and r that no other word has, with the bits of a beat, a bit for each of its bytes, and the bits of a beat"
-    found = widths_of(files)
-    widths = found.get(name)
+    tables = trace_kit.read_file(files["trace"]).channels
+    widths = next((table.widths for table in tables if table.name == name), None)
     if widths is None:
-        return f"the {'trace' if 'trace' in files else 'map'} has no channel {name}; it has {', '.join(found)}"
+        return f"the trace has no channel {name}; it has {', '.join(table.name for table in tables)}"
     for word, place in zip(axi_kit.WORDS.get(role, ()), map(tool_kit.number, places)):
         if place is not None and place >= len(widths):
             return f"{name} has {len(widths)} content ports, and {word} is port {place}: they count from 0"
-        if place is not None and widths[place] and (axi_kit.WIDTHS.get(word, widths[place]) != widths[place] or widths[place] > axi_kit.MOST.get(word, 128)):
+        if place is not None and (axi_kit.WIDTHS.get(word, widths[place]) != widths[place] or widths[place] > axi_kit.MOST.get(word, 128)):
             wanted = axi_kit.WIDTHS.get(word) or f"at most {axi_kit.MOST[word]}"
             return f"port {place} of {name} has {widths[place]} bits, and {word} has {wanted}"
-    more = "" if "trace" in files else ", or a port hasn't the width of its word"
-    return f"{name} or one of its ports is named twice, or goes the other way: aw, w and ar one way, b and r the other{more}"
-
-
-def nets_of(path):
-    """The full names of a wave's nets, the first of them."""
-    found = wave_kit.names_of(path)
-    return found[:SHOWN] + [f"and {len(found) - SHOWN} more"] * (len(found) > SHOWN)
+    return f"{name} or one of its ports is named twice, or goes the other way: aw, w and ar one way, b and r the other"
 
 
 def trace_fault(path, whole):
@@ -229,7 +202,7 @@ def looks_like(path):
     """What a file seems to be by its first words."""
     content = content_of(path)
     words = re.sub(rb"//[^\n]*|/\*.*?\*/|#[^\n]*", b" ", content, flags=re.S).split()
-    kinds = {b"top": "map", b"cycles": "script", b"capacity": "stalls", b"beat": "axi", b"$timescale": "wave"}
+    kinds = {b"top": "map", b"cycles": "script", b"capacity": "stalls"}
     if content[:7] == b"VIDITRC":
         return "trace"
     return kinds.get(words[0] if words else b"", "design" if b"endmodule" in words else None)
@@ -241,7 +214,7 @@ def exchanged(files, where, reason):
     if content_of(path)[:3] == b"\xef\xbb\xbf":
         return f"{path} begins with a byte-order mark: save it as plain text without one"
     kind, wanted = looks_like(path), "trace" if where == "other" else where
-    if kind not in (None, wanted) and reason.startswith(("E1 ", "E2 ", "M1 ", "S1 ", "P1 ", "A1 ", "bad ")):
+    if kind not in (None, wanted) and reason.startswith(("E1 ", "E2 ", "M1 ", "S1 ", "P1 ", "bad trace")):
         return f"{path} looks like a {kind}, and a {wanted} is wanted there: are {kind} and {wanted} exchanged?"
     return None
 
@@ -254,10 +227,6 @@ def fault_of(files, where, reason, words):
         return axi_fault(files, words)
     if reason.startswith(("S2", "S3")):
         return step_fault(files, words)
-    if reason.startswith("wave too long"):
-        return f"cycles {MOST_NUMBERS // int(reason.split()[4])} at most"
-    if reason == "no net":
-        return f"it has {', '.join(nets_of(files['wave']))}"
     if reason.startswith("M3"):
         plan, port = plan_of(files["map"]), reason.split()[2]
         return f"ignore {port}" if plan and header_of(files["design"], plan.top).get(port) == "output" else f"tie {port} 0"

@@ -52,19 +52,6 @@ def declarations(words):
                 return
 
 
-def names_of(path):
-    """The full names of the nets of a wave as vidi writes it, without the top's own name."""
-    found, at = [], []
-    for form, words in declarations(words_of(path)):
-        if form == "scope":
-            at.append(words[-1])
-        elif form == "upscope":
-            at = at[:-1]
-        elif form == "var":
-            found.append(".".join([*at[1:], *words[3:4]]))
-    return found
-
-
 class Waves:
     """The signals of one scope: their codes, widths, and the changes in the order of the file."""
 

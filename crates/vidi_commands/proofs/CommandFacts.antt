@@ -1,24 +1,23 @@
 -- What is known of each command: one list.
-use Rattle.vidi_commands.specs.Command.{Command, Dump, Check, Run, Record, Replay, Serve, Compare, Salvage, Migrate, Bursts, Move, Wrap, Sample}
+use Rattle.vidi_commands.specs.Command.{Command, Dump, Check, Run, Record, Replay, Compare, Salvage, Migrate, Bursts, Move, Wrap, Sample}
 use Rattle.vidi_commands.specs.Answer.{Does, StopsIn}
-use Rattle.serve_command.specs.trace_commands.Bursts as grouping
-use Rattle.serve_command.specs.trace_commands.Moves.{IsMovedOf, IsUnmoved}
-use Rattle.serve_command.specs.trace_commands.Migrating.{IsOldTraceOf, IsUnmigrated}
-use Rattle.serve_command.specs.trace_commands.Said.{migrated_line, moved_line, salvaged_line}
-use Rattle.serve_command.specs.trace_commands.Traces.{Compares, Dumps, IsUnsaved, IsWhole}
+use Rattle.trace_commands.specs.Bursts as grouping
+use Rattle.trace_commands.specs.Moves.{IsMovedOf, IsUnmoved}
+use Rattle.trace_commands.specs.Migrating.{IsOldTraceOf, IsUnmigrated}
+use Rattle.trace_commands.specs.Said.{migrated_line, moved_line, salvaged_line}
+use Rattle.trace_commands.specs.Traces.{Compares, Dumps, IsUnsaved, IsWhole}
 use Rattle.sample_command.specs.run_commands.Checks.{Checks}
 use Rattle.sample_command.specs.run_commands.Runs.{Runs}
 use Rattle.sample_command.specs.Samples.{Samples}
-use Rattle.serve_command.proofs.trace_commands_lemmas.QuietBursts.{mute-bursts, quiet-bursts}
-use Rattle.serve_command.proofs.trace_commands_lemmas.MovedTraces.{mute-unmoved, quiet-unmoved}
-use Rattle.serve_command.proofs.trace_commands_lemmas.QuietTraces.{mute-dumps, mute-compares, mute-unsaved, mute-unmigrated}
-use Rattle.serve_command.proofs.trace_commands_lemmas.QuietTraces.{quiet-dumps, quiet-compares, quiet-unsaved, quiet-unmigrated}
+use Rattle.trace_commands.proofs.QuietBursts.{mute-bursts, quiet-bursts}
+use Rattle.trace_commands.proofs.MovedTraces.{mute-unmoved, quiet-unmoved}
+use Rattle.trace_commands.proofs.QuietTraces.{mute-dumps, mute-compares, mute-unsaved, mute-unmigrated}
+use Rattle.trace_commands.proofs.QuietTraces.{quiet-dumps, quiet-compares, quiet-unsaved, quiet-unmigrated}
 use Rattle.sample_command.proofs.run_commands_lemmas.QuietTexts.{mute-checks, mute-runs, quiet-checks, quiet-runs}
 use Rattle.sample_command.proofs.QuietSamples.{mute-samples}
 use Rattle.vidi_commands.proofs.Facts.{Facts, reads-facts}
 use Rattle.vidi_commands.proofs.RecordFacts.{record-facts}
 use Rattle.vidi_commands.proofs.ReplayFacts.{replay-facts}
-use Rattle.vidi_commands.proofs.ServeFacts.{serve-facts}
 use Rattle.vidi_commands.proofs.WrapFacts.{wrap-facts}
 use Rattle.vidi_commands.proofs.WrittenFacts.{written-facts}
 
@@ -28,7 +27,6 @@ facts (Check design top) = reads-facts (Checks design top) (mute-checks design t
 facts (Run design map script) = reads-facts (Runs design map script) (mute-runs design map script) (quiet-runs design map script)
 facts (Record design map script stalls trace) = record-facts design map script stalls trace
 facts (Replay design map trace cycles out) = replay-facts design map trace cycles out
-facts (Serve design map axi stalls cycles trace) = serve-facts design map axi stalls cycles trace
 facts (Compare trace other) = reads-facts (Compares trace other) (mute-compares trace other) (quiet-compares trace other)
 facts (Salvage trace out) = written-facts (IsUnsaved trace) (IsWhole trace) salvaged_line out (mute-unsaved trace) (quiet-unsaved trace)
 facts (Migrate trace out) =

@@ -9,7 +9,7 @@ use Rattle.vidi_commands.specs.Answer.{StartsNone}
 use Rattle.sample_command.proofs.run_commands_lemmas.QuietTexts.{mute-records, quiet-records}
 use Rattle.vidi_commands.proofs.Facts.{Facts, Once}
 
-pub recorded-starts : (channels : List Channel) (rows : List Row) (stop : Option ℕ) (status : Status) (text : List ℕ)
+recorded-starts : (channels : List Channel) (rows : List Row) (stop : Option ℕ) (status : Status) (text : List ℕ)
     → IsRecorded channels rows stop status text → StartsNone status → ⊥
 recorded-starts channels rows None status text said is = subst StartsNone said.0 is
 recorded-starts channels rows (Some c) status text said is = subst StartsNone said.0 is

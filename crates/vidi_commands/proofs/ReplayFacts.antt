@@ -4,7 +4,7 @@ use Rattle.wrap_command.specs.trace_model.declared.trace.Trace.{Trace}
 use Rattle.wrap_command.specs.trace_model.Recording.{trace_of}
 use Rattle.wrap_command.specs.vidi_io.Shelf.{Files}
 use Rattle.wrap_command.specs.vidi_bench.vidi_answer.declared.status.Status.{Status}
-use Rattle.serve_command.specs.trace_commands.Traces.{IsVerdict}
+use Rattle.trace_commands.specs.Traces.{IsVerdict}
 use Rattle.sample_command.specs.replay_command.Replays.{IsReplaySaid, Replays, StopsReplaying}
 use Rattle.sample_command.specs.replay_command.Said.{replayed_line}
 use Rattle.sample_command.specs.replay_run.declared.outcome.ReplayOutcome.{ReplayOutcome}

@@ -28,19 +28,6 @@ six (x ∷ y ∷ z ∷ w ∷ v ∷ k ∷ []) a b c d e f low high p q r s t u =
     λ i. sym p i ∷ sym q i ∷ sym r i ∷ sym s i ∷ sym t i ∷ sym u i ∷ []
 six (x ∷ y ∷ z ∷ w ∷ v ∷ k ∷ m ∷ xs) a b c d e f low high p q r s t u = absurd (omega arith)
 
-pub seven : {A : Type 0} (xs : List A) (a b c d e f g : A) → 7 ≤ length xs → length xs < 8 → a ≡ get_or xs 0 a → b ≡ get_or xs 1 b
-    → c ≡ get_or xs 2 c → d ≡ get_or xs 3 d → e ≡ get_or xs 4 e → f ≡ get_or xs 5 f → g ≡ get_or xs 6 g → xs ≡ a ∷ b ∷ c ∷ d ∷ e ∷ f ∷ g ∷ []
-seven [] a b c d e f g low high p q r s t u v = absurd (omega arith)
-seven (x ∷ []) a b c d e f g low high p q r s t u v = absurd (omega arith)
-seven (x ∷ y ∷ []) a b c d e f g low high p q r s t u v = absurd (omega arith)
-seven (x ∷ y ∷ z ∷ []) a b c d e f g low high p q r s t u v = absurd (omega arith)
-seven (x ∷ y ∷ z ∷ k ∷ []) a b c d e f g low high p q r s t u v = absurd (omega arith)
-seven (x ∷ y ∷ z ∷ k ∷ l ∷ []) a b c d e f g low high p q r s t u v = absurd (omega arith)
-seven (x ∷ y ∷ z ∷ k ∷ l ∷ m ∷ []) a b c d e f g low high p q r s t u v = absurd (omega arith)
-seven (x ∷ y ∷ z ∷ k ∷ l ∷ m ∷ n ∷ []) a b c d e f g low high p q r s t u v =
-    λ i. sym p i ∷ sym q i ∷ sym r i ∷ sym s i ∷ sym t i ∷ sym u i ∷ sym v i ∷ []
-seven (x ∷ y ∷ z ∷ k ∷ l ∷ m ∷ n ∷ o ∷ xs) a b c d e f g low high p q r s t u v = absurd (omega arith)
-
 pub eight : {A : Type 0} (xs : List A) (a b c d e f g h : A) → 8 ≤ length xs → length xs < 9 → a ≡ get_or xs 0 a → b ≡ get_or xs 1 b
     → c ≡ get_or xs 2 c → d ≡ get_or xs 3 d → e ≡ get_or xs 4 e → f ≡ get_or xs 5 f → g ≡ get_or xs 6 g → h ≡ get_or xs 7 h
     → xs ≡ a ∷ b ∷ c ∷ d ∷ e ∷ f ∷ g ∷ h ∷ []

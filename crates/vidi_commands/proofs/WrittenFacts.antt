@@ -4,9 +4,9 @@ use Rattle.wrap_command.specs.trace_model.declared.trace.Trace.{Trace}
 use Rattle.wrap_command.specs.vidi_io.Shelf.{Files}
 use Rattle.wrap_command.specs.vidi_bench.vidi_answer.declared.status.Status.{Status}
 use Rattle.wrap_command.specs.vidi_bench.Steps.{Ending}
-use Rattle.serve_command.specs.trace_commands.Written.{StopsWriting, Writes}
+use Rattle.trace_commands.specs.Written.{StopsWriting, Writes}
 use Rattle.vidi_commands.specs.Answer.{StartsNone}
-use Rattle.serve_command.proofs.trace_commands_lemmas.WrittenTraces.{mute-writes, writes-as}
+use Rattle.trace_commands.proofs.WrittenTraces.{mute-writes, writes-as}
 use Rattle.wrap_command.proofs.vidi_bench_lemmas.Chain.{Implies}
 use Rattle.wrap_command.proofs.vidi_bench_lemmas.Quiet.{Mute}
 use Rattle.vidi_commands.proofs.Facts.{Facts, Once, cut-once, done-starts}

@@ -6,17 +6,16 @@ use Rattle.wrap_command.specs.vidi_io.Sink.{AppendsSome}
 use Rattle.wrap_command.specs.vidi_io.Writing.{IsKept}
 use Rattle.wrap_command.specs.vidi_bench.vidi_answer.declared.status.Status.{Status}
 use Rattle.wrap_command.specs.vidi_bench.vidi_answer.declared.status.Status.TheVariants.{Usage, ReadFault, WriteFault, Refused, Memory}
-use Rattle.vidi_commands.specs.Command.{Command, Dump, Check, Run, Record, Replay, Serve, Compare, Salvage, Migrate, Bursts, Move, Wrap, Sample, IsGiven}
+use Rattle.vidi_commands.specs.Command.{Command, Dump, Check, Run, Record, Replay, Compare, Salvage, Migrate, Bursts, Move, Wrap, Sample, IsGiven}
 use Rattle.wrap_command.specs.vidi_bench.Steps.{IsSaid}
-use Rattle.serve_command.specs.trace_commands.Bursts as grouping
-use Rattle.serve_command.specs.trace_commands.Moves.{MovesEnd, StopsMoving}
-use Rattle.serve_command.specs.trace_commands.Migrating.{Migrates, StopsMigrating}
-use Rattle.serve_command.specs.trace_commands.Traces.{Dumps, Compares, Saves, StopsSaving}
+use Rattle.trace_commands.specs.Bursts as grouping
+use Rattle.trace_commands.specs.Moves.{MovesEnd, StopsMoving}
+use Rattle.trace_commands.specs.Migrating.{Migrates, StopsMigrating}
+use Rattle.trace_commands.specs.Traces.{Dumps, Compares, Saves, StopsSaving}
 use Rattle.sample_command.specs.run_commands.Checks.{Checks}
 use Rattle.sample_command.specs.run_commands.Runs.{Runs}
 use Rattle.sample_command.specs.run_commands.Records.{Records, StopsRecording}
 use Rattle.sample_command.specs.replay_command.Replays.{Replays, StopsReplaying}
-use Rattle.serve_command.specs.Serves.{Serves, StopsServing}
 use Rattle.wrap_command.specs.Wraps.{Wraps, StopsWrapping}
 use Rattle.sample_command.specs.Samples.{Samples}
 use Rattle.vidi_commands.specs.Said.{usage_line, memory_line}
@@ -32,8 +31,6 @@ Does (Record design map script stalls trace) files ReadFailed Started status tex
     Records design map script stalls trace files ReadFailed Started status text left
 Does (Replay design map trace cycles out) files ReadFailed Started status text left =
     Replays design map trace cycles out files ReadFailed Started status text left
-Does (Serve design map axi stalls cycles trace) files ReadFailed Started status text left =
-    Serves design map axi stalls cycles trace files ReadFailed Started status text left
 Does (Compare trace other) files ReadFailed Started status text left =
     Compares trace other files ReadFailed status text × IsKept files Started left
 Does (Salvage trace out) files ReadFailed Started status text left = Saves trace out files ReadFailed Started status text left
@@ -60,8 +57,6 @@ StopsIn (Migrate trace out) files Started left = StopsMigrating trace out files 
 StopsIn (Move trace wish out) files Started left = StopsMoving trace wish out files Started left
 StopsIn (Record design map script stalls trace) files Started left = StopsRecording design map script stalls trace files Started left
 StopsIn (Replay design map trace cycles out) files Started left = StopsReplaying design map trace cycles out files Started left
-StopsIn (Serve design map axi stalls cycles trace) files Started left =
-    StopsServing design map axi stalls cycles trace files Started left
 StopsIn (Wrap design map out) files Started left = StopsWrapping design map out files Started left
 StopsIn _ files Started left = ⊥
 

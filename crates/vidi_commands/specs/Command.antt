@@ -3,7 +3,7 @@ use Rattle.std.specs.Prelude.{◌≡◌, ◌≢◌, ℕ, ◌<◌, ◌≤◌, ◌
 use Rattle.wrap_command.specs.vidi_lines.Number.{number_of}
 use Rattle.sample_command.specs.sample_gen.declared.generate.TheConstants.{LARGEST}
 use Rattle.wrap_command.specs.trace_model.declared.packet.TheConstants.{MOST_CYCLES}
-use Rattle.serve_command.specs.trace_commands.Moves.{wanted, Wanted}
+use Rattle.trace_commands.specs.Moves.{wanted, Wanted}
 use Rattle.vidi_commands.specs.declared.command.Command as declared
 use Rattle.vidi_commands.specs.declared.command.Command.TheVariants as variants
 
@@ -13,7 +13,6 @@ pub data Command : Type 0 where
   Run : (design map script : List ℕ) → Command
   Record : (design map script stalls trace : List ℕ) → Command
   Replay : (design map trace : List ℕ) (cycles : ℕ) (out : List ℕ) → Command
-  Serve : (design map axi stalls : List ℕ) (cycles : ℕ) (trace : List ℕ) → Command
   Compare : (trace other : List ℕ) → Command
   Salvage : (trace out : List ℕ) → Command
   Migrate : (trace out : List ℕ) → Command
@@ -54,9 +53,6 @@ IsGiven words (Record design map script stalls trace) =
 IsGiven words (Replay design map trace cycles out) =
     (word : List ℕ) × (words ≡ codes "replay" ∷ design ∷ map ∷ trace ∷ word ∷ out ∷ []) × IsCycles word cycles
     × (design ≢ out) × (map ≢ out) × (trace ≢ out)
-IsGiven words (Serve design map axi stalls cycles trace) =
-    (word : List ℕ) × (words ≡ codes "serve" ∷ design ∷ map ∷ axi ∷ stalls ∷ word ∷ trace ∷ []) × IsCycles word cycles
-    × (design ≢ trace) × (map ≢ trace) × (axi ≢ trace) × (stalls ≢ trace)
 IsGiven words (Compare trace other) = words ≡ codes "compare" ∷ trace ∷ other ∷ []
 IsGiven words (Salvage trace out) = (words ≡ codes "salvage" ∷ trace ∷ out ∷ []) × (trace ≢ out)
 IsGiven words (Migrate trace out) = (words ≡ codes "migrate" ∷ trace ∷ out ∷ []) × (trace ≢ out)
@@ -75,7 +71,6 @@ plain (variants.Check design top) = Check design.now top.now
 plain (variants.Run design map script) = Run design.now map.now script.now
 plain (variants.Record design map script stalls trace) = Record design.now map.now script.now stalls.now trace.now
 plain (variants.Replay design map trace cycles out) = Replay design.now map.now trace.now cycles out.now
-plain (variants.Serve design map axi stalls cycles trace) = Serve design.now map.now axi.now stalls.now cycles trace.now
 plain (variants.Compare trace other) = Compare trace.now other.now
 plain (variants.Salvage trace out) = Salvage trace.now out.now
 plain (variants.Migrate trace out) = Migrate trace.now out.now

@@ -14,12 +14,11 @@ pub use Rattle.sample_command.specs.run_commands as run_commands
 pub use Rattle.wrap_command.specs.run_model as run_model
 pub use Rattle.sample_command.specs as sample_command
 pub use Rattle.sample_command.specs.sample_gen as sample_gen
-pub use Rattle.serve_command.specs as serve_command
 pub use Rattle.wrap_command.specs.shim_trees as shim_trees
 pub use Rattle.sample_command.specs.trace_code as trace_code
-pub use Rattle.serve_command.specs.trace_commands as trace_commands
-pub use Rattle.serve_command.specs.trace_commands.trace_edit as trace_edit
-pub use Rattle.serve_command.specs.trace_commands.vidi_answer.trace_v2 as trace_v2
+pub use Rattle.trace_commands.specs as trace_commands
+pub use Rattle.trace_commands.specs.trace_edit as trace_edit
+pub use Rattle.trace_commands.specs.vidi_answer.trace_v2 as trace_v2
 pub use Rattle.sample_command.specs.trace_compare as trace_compare
 pub use Rattle.wrap_command.specs.trace_model as trace_model
 pub use Rattle.wrap_command.specs.vidi_bench as vidi_bench

@@ -4,7 +4,7 @@ use Rattle.wrap_command.specs.report_text.Text.{newline}
 pub use Rattle.wrap_command.specs.report_text.Reason.{read_fault_line, reason_line}
 pub use Rattle.wrap_command.specs.report_text.Report.{name_of}
 pub use Rattle.wrap_command.specs.vidi_bench.Usage.{usage_line}
-pub use Rattle.serve_command.specs.trace_commands.Said.{dump_text, no_divergence_line, diverged_text, salvaged_line, migrated_line, moved_line}
+pub use Rattle.trace_commands.specs.Said.{dump_text, no_divergence_line, diverged_text, salvaged_line, migrated_line, moved_line}
 pub use Rattle.wrap_command.specs.Said.{wrapped_line}
 pub use Rattle.sample_command.specs.run_commands.Said.{check_text, cycles_line, recorded_line, unstable_line}
 pub use Rattle.sample_command.specs.replay_command.Said.{replayed_line}

@@ -1,12 +1,12 @@
 //! The words of a command line.
 
 ghost use Rattle.std.specs.Prelude.{◌≡◌, ◌≢◌, Bool, ℕ, [], ◌∷◌, MatchOption, codes};
-ghost use Rattle.serve_command.specs.trace_commands.Moves.{wanted, Wanted};
+ghost use Rattle.trace_commands.specs.Moves.{wanted, Wanted};
 ghost use Rattle.vidi_commands.specs.Command as spec;
 
 use sample_command::sample_gen::LARGEST;
 use sample_command::trace_code::trace_model::MOST_CYCLES;
-use serve_command::trace_commands::{Completion, Wish};
+use trace_commands::{Completion, Wish};
 use wrap_command::vidi_io::Words;
 use wrap_command::vidi_lines::number;
 
@@ -42,16 +42,6 @@ pub enum Command<'a> {
         trace: &'a str,
         cycles: u32,
         out: &'a str,
-    },
-    /// The design is played for so many cycles, 1 to 50,000, with a memory behind the port that `axi` says, behind a store that drains as the
-    /// stalls say, and `trace` gets its trace.
-    Serve {
-        design: &'a str,
-        map: &'a str,
-        axi: &'a str,
-        stalls: &'a str,
-        cycles: u32,
-        trace: &'a str,
     },
     /// `other` is compared with `trace`.
     Compare {
@@ -111,15 +101,6 @@ impl<'a> Command<'a> {
                 map.as_str(),
                 script.as_str(),
                 stalls.as_str(),
-                trace.as_str(),
-            ),
-            [name, design, map, axi, stalls, cycles, trace] => of_six(
-                name.as_str(),
-                design.as_str(),
-                map.as_str(),
-                axi.as_str(),
-                stalls.as_str(),
-                cycles.as_str(),
                 trace.as_str(),
             ),
             [name, trace, channel, index, side, other, other_index, out] => {
@@ -334,34 +315,6 @@ fn replay_of<'a>(
         trace,
         cycles,
         out,
-    })
-}
-
-/// The command of this name with six parts. The file that is written isn't one that is read.
-fn of_six<'a>(
-    name: &str,
-    design: &'a str,
-    map: &'a str,
-    axi: &'a str,
-    stalls: &'a str,
-    word: &str,
-    trace: &'a str,
-) -> Option<Command<'a>>
-    ensures { MatchOption result
-        ((c : spec.Command) → ¬ spec.IsGiven (name.now ∷ design.now ∷ map.now ∷ axi.now ∷ stalls.now ∷ word.now ∷ trace.now ∷ []) c)
-        (λ c. spec.IsGiven (name.now ∷ design.now ∷ map.now ∷ axi.now ∷ stalls.now ∷ word.now ∷ trace.now ∷ []) (spec.plain c)) }
-{
-    if name != "serve" || design == trace || map == trace || axi == trace || stalls == trace {
-        return None;
-    }
-    let cycles = cycles_of(word)?;
-    Some(Command::Serve {
-        design,
-        map,
-        axi,
-        stalls,
-        cycles,
-        trace,
     })
 }
 

@@ -14,9 +14,8 @@ use crate::command::Command;
 use sample_command::replay_command::replay;
 use sample_command::run_commands::{check, record, run};
 use sample_command::sample;
-use serve_command::serve;
-use serve_command::trace_commands::{bursts, compare, dump, migrate, move_completion, salvage};
 use std::alloc::Global;
+use trace_commands::{bursts, compare, dump, migrate, move_completion, salvage};
 use wrap_command::vidi_bench::{Answer, Ended, Status, usage};
 use wrap_command::vidi_io::{Failed, Shelf, Sink, Words};
 use wrap_command::wrap;
@@ -29,8 +28,6 @@ use wrap_command::wrap;
 /// - `record DESIGN MAP SCRIPT STALLS TRACE` does so behind a store that drains as the stalls say, and writes the trace of the run.
 /// - `replay DESIGN MAP TRACE CYCLES OUT` plays a trace again on a design, writes the trace of the replay, and prints what is missing,
 ///   extra, different or early in it, or what a replay that is short holds back and waits for.
-/// - `serve DESIGN MAP AXI STALLS CYCLES TRACE` plays a design with a memory behind its AXI4 port, and writes the trace of the run as `record`
-///   does.
 /// - `compare TRACE OTHER` prints what is missing, extra, different or early in the second trace.
 /// - `salvage TRACE OUT` writes what is whole of a trace that was cut off.
 /// - `migrate TRACE OUT` writes an old trace, one of version 1, in the bytes of today.
@@ -118,16 +115,6 @@ fn answer_to<S: Shelf>(alloc: Global, words: &Words, shelf: &mut S) -> Result<An
                 out,
             },
         ) => replay(alloc, design, map, trace, cycles, out, shelf),
-        Some(
-            Command::Serve {
-                design,
-                map,
-                axi,
-                stalls,
-                cycles,
-                trace,
-            },
-        ) => serve(alloc, design, map, axi, stalls, cycles, trace, shelf),
         Some(Command::Compare { trace, other }) => compare(alloc, trace, other, shelf),
         Some(Command::Salvage { trace, out }) => salvage(alloc, trace, out, shelf),
         Some(Command::Migrate { trace, out }) => migrate(alloc, trace, out, shelf),

@@ -95,7 +95,7 @@ module _ (law : FrontIsSalvaged) (t : Trace) (bytes : List ℕ) (encodes : HasEn
   count-is : (k : ℕ) → LieWhole t (length bytes) k → length (take k t.packets) ≡ k
   count-is k lie = length-take-le k t.packets lie.there
 
-  pub saved : length (encode t) ≤ trace_limit → (trace out : List ℕ) (now : Files) → get now trace ≡ Some bytes → (P : Bool → Type 0)
+  saved : length (encode t) ≤ trace_limit → (trace out : List ℕ) (now : Files) → get now trace ≡ Some bytes → (P : Bool → Type 0)
       (status : Status) (text : List ℕ) (left : Option Files) → Saves trace out (Some now) (λ _. ⊥) P status text left
       → KeepsWhole t bytes out now status text left
   saved small trace out now at P status text left saves = go (read-there trace_limit trace bytes now at (fits small)) saves
@@ -152,6 +152,5 @@ salvaged-replayable design map script stalls files b plan planned rows stop run 
     let encodes : HasEncoding t = (run-kept design map script stalls (Some files) b plan planned rows stop run).encoded in
     let small : length (encode t) ≤ trace_limit = recorded-short design map script stalls (Some files) b plan planned rows stop run in
     let l : length (encode (front count t)) ≤ length (encode t) = front-short t count in
-    replayable-there design map planned.design_text planned.map_text files b.device planned.design_read planned.map_read
-    planned.bench.device (front count t) (front-encodes t encodes count) refl
+    replayable-there design map script stalls files b plan planned (front count t) (front-encodes t encodes count) refl
     (omega (arith, small, l)) trace now same same' there

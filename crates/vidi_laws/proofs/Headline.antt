@@ -20,9 +20,6 @@ use Rattle.vidi_commands.proofs.vidi_recorder_lemmas.ScriptKept.{script-kept, fu
 use Rattle.vidi_commands.proofs.vidi_recorder_lemmas.Short.{trace-short}
 use Rattle.vidi_commands.specs.vidi_bench.Reading.{IsRead}
 use Rattle.vidi_commands.specs.vidi_bench.declared.bench.Bench.{Bench}
-use Rattle.vidi_commands.specs.vidi_bench.declared.device.Device.{Device}
-use Rattle.vidi_commands.specs.vidi_bench.Design.{text_limit}
-use Rattle.vidi_commands.specs.vidi_bench.Devices.{IsDevice}
 use Rattle.vidi_commands.specs.run_commands.Records.{course_of, IsPlanned}
 use Rattle.vidi_commands.specs.replay_command.Replays.{IsReplayable}
 use Rattle.vidi_commands.specs.trace_commands.Traces.{trace_limit}
@@ -71,28 +68,26 @@ pub read-there : (limit : ℕ) (name file : List ℕ) (now : Files) → get now 
 read-there limit name file now there small =
     (subst (λ (o : Option (List ℕ)). IsSomeAnd o (λ t. t ≡ file)) (sym there) refl, small)
 
--- the encoding of a trace of the map's channels is replayed on a design and a map that stand as they were read
-pub replayable-there : (design map : List ℕ) (design_text map_text : List ℕ) (files : Files) (d : Device)
-    → IsRead text_limit design (Some files) design_text → IsRead text_limit map (Some files) map_text → IsDevice design_text map_text d
-    → (t : Trace) → HasEncoding t → t.channels ≡ d.map.channels → length (encode t) ≤ trace_limit → (trace : List ℕ) (now : Files)
-    → get now design ≡ get files design → get now map ≡ get files map → get now trace ≡ Some (encode t)
-    → IsReplayable design map trace (Some now) d t
-replayable-there design map design_text map_text files d read read' is t encodes of small trace now same same' there = record {
-  design_text = design_text;
-  map_text = map_text;
+-- the encoding of a trace of the map's channels is replayed on the design and the map that were recorded
+pub replayable-there : (design map script stalls : List ℕ) (files : Files) (b : Bench) (plan : Stalls)
+    → IsPlanned design map script stalls (Some files) b plan → (t : Trace) → HasEncoding t → t.channels ≡ b.device.map.channels
+    → length (encode t) ≤ trace_limit → (trace : List ℕ) (now : Files) → get now design ≡ get files design → get now map ≡ get files map
+    → get now trace ≡ Some (encode t) → IsReplayable design map trace (Some now) b.device t
+replayable-there design map script stalls files b plan planned t encodes of small trace now same same' there = record {
+  design_text = planned.design_text;
+  map_text = planned.map_text;
   trace_bytes = encode t;
-  design_read = read-again _ design design_text files now same read;
-  map_read = read-again _ map map_text files now same' read';
+  design_read = read-again _ design planned.design_text files now same planned.design_read;
+  map_read = read-again _ map planned.map_text files now same' planned.map_read;
   trace_read = read-there _ trace (encode t) now there small;
-  device = is;
+  device = planned.bench.device;
   encodes = (encodes, refl);
   same = of;
 }
 
 pub recorded-replayable : RecordedTraceIsReplayable
 recorded-replayable design map script stalls files b plan planned rows stop run trace now same same' there =
-    replayable-there design map planned.design_text planned.map_text files b.device planned.design_read planned.map_read
-    planned.bench.device (trace_of b.device.map.channels rows)
+    replayable-there design map script stalls files b plan planned (trace_of b.device.map.channels rows)
     (run-kept design map script stalls (Some files) b plan planned rows stop run).encoded refl
     (recorded-short design map script stalls (Some files) b plan planned rows stop run) trace now same same' there
 

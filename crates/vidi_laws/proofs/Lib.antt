@@ -19,14 +19,12 @@ pub mod SameDevice
 pub mod SameBench
 pub mod SameRun
 pub mod SameRecord
-pub mod SameServe
 pub mod SameReplay
 pub mod OneAnswer
 pub mod Headline
 pub mod Broken
 pub mod Migrating
 pub mod OneRun
-pub mod Serving
 pub mod Gaps
 pub mod KeptOrder
 pub mod Faithful

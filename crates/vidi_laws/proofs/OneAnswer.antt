@@ -6,7 +6,7 @@ use Rattle.vidi_commands.specs.trace_commands.trace_edit.Laws.{OneMove}
 use Rattle.vidi_commands.specs.trace_v2.OldDecoding.{OneOldPlace, OneOldReading, OneOldSalvage}
 use Rattle.vidi_commands.specs.vidi_io.Shelf.{Files, HasStarted}
 use Rattle.vidi_commands.specs.vidi_bench.vidi_answer.declared.status.Status.{Status}
-use Rattle.vidi_commands.specs.Command.{Command, Dump, Check, Run, Record, Replay, Serve, Compare, Salvage, Migrate, Bursts, Move, Wrap, Sample}
+use Rattle.vidi_commands.specs.Command.{Command, Dump, Check, Run, Record, Replay, Compare, Salvage, Migrate, Bursts, Move, Wrap, Sample}
 use Rattle.vidi_commands.specs.Answer.{Does}
 use Rattle.vidi_laws.specs.OneAnswer.{OneAnswer}
 use Rattle.vidi_laws.proofs.OneCommand.{one_command}
@@ -20,7 +20,6 @@ use Rattle.vidi_laws.proofs.OneSalvaged.{one_salvaged}
 use Rattle.vidi_laws.proofs.SameBench.{BenchLaws}
 use Rattle.vidi_laws.proofs.SameRun.{one_run}
 use Rattle.vidi_laws.proofs.SameRecord.{one_record}
-use Rattle.vidi_laws.proofs.SameServe.{one_serve}
 use Rattle.vidi_laws.proofs.SameWrap.{one_wrap}
 use Rattle.vidi_laws.proofs.SameReplay.{ReplayLaws, one_replay}
 use Rattle.vidi_laws.proofs.SameSample.{one_sample}
@@ -60,8 +59,6 @@ one_deed laws (Record design map script stalls trace) files P Q a b x y left rig
     one_record laws.benches design map script stalls trace files P Q a b x y left right d e
 one_deed laws (Replay design map trace n out) files P Q a b x y left right d e =
     one_replay laws.replays design map trace n out files P Q a b x y left right d e
-one_deed laws (Serve design map axi stalls n trace) files P Q a b x y left right d e =
-    one_serve laws.benches design map axi stalls n trace files P Q a b x y left right d e
 one_deed laws (Check design top) files P Q a b x y left right (d, (l, _)) (e, (r, _)) =
     kept files a b x y left right (one_check laws.benches.devices.texts design top files a b x y d e) l r
 one_deed laws (Compare trace other) files P Q a b x y left right (d, (l, _)) (e, (r, _)) =

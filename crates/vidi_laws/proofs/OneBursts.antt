@@ -33,7 +33,7 @@ use Rattle.vidi_laws.proofs.OneTraces.{no_trace-apart, one-decoding, one-reset, 
 
 -- ---- reasons
 -- a word's file is refused for one reason
-pub one-refusal : (word : Word) (r q : Reason) (a b : Status) (x y : List ℕ) → q ≡ r → IsRefusal word r a x → IsRefusal word q b y → Same a b x y
+one-refusal : (word : Word) (r q : Reason) (a b : Status) (x y : List ℕ) → q ≡ r → IsRefusal word r a x → IsRefusal word q b y → Same a b x y
 one-refusal word r q a b x y same s t =
     one-said (Refused word r) (reason_line word r) a b x y s (subst (λ (k : Reason). IsRefusal word k b y) same t)
 
@@ -90,7 +90,7 @@ module _ (t u : AxiText) (channels : List Channel) (same : said t ≡ said u) wh
   one-bound : (m n : Axi) → IsBound t channels m → IsBound u channels n → m ≡ n
   one-bound m n is is' = is.axi_is ∙ ap (λ (k : Said). axi_from k.beat (ends_of channels k.lines)) same ∙ sym is'.axi_is
 
-pub one-porting : (bytes : List ℕ) (channels : List Channel) (Next : Axi → Ending) → ((axi : Axi) → One (Next axi)) → One (Porting bytes channels Next)
+one-porting : (bytes : List ℕ) (channels : List Channel) (Next : Axi → Ending) → ((axi : Axi) → One (Next axi)) → One (Porting bytes channels Next)
 one-porting bytes channels Next one = step-meets Same (IsNoAxi bytes) (IsNoAxi bytes) (λ (t : AxiText). ReadsAxi bytes (Ok t))
     (λ (t : AxiText). ReadsAxi bytes (Ok t)) _ _ (one-no_axi bytes) (no_axi-apart bytes) (no_axi-apart bytes)
     (λ t u is is'. let same = text-same _ t u is is' in
@@ -98,20 +98,6 @@ one-porting bytes channels Next one = step-meets Same (IsNoAxi bytes) (IsNoAxi b
     (λ (axi : Axi). IsBound u channels axi) Next Next (unbound-meet t u channels same) (unbound-apart t u channels same)
     (unbound-apart u t channels (sym same))
     (λ m n bound bound'. subst (λ (k : Axi). Meet Same (Next m) (Next k)) (one-bound t u channels same m n bound bound') (one m)))
-
--- where the bytes are a file that is bound to these channels, nothing but what comes of it ends the command
-pub porting-apart : (bytes : List ℕ) (channels : List Channel) (Next : Axi → Ending) (text : AxiText) (axi : Axi) → ReadsAxi bytes (Ok text)
-    → IsBound text channels axi → (a : Status) (x : List ℕ) → (Next axi a x → ⊥) → Porting bytes channels Next a x → ⊥
-porting-apart bytes channels Next text axi reads bound a x apart (inl none) = no_axi-apart bytes a x text none reads
-porting-apart bytes channels Next text axi reads bound a x apart (inr (t, reads', inl unbound)) =
-    unbound-apart t text channels (text-same _ t text reads' reads) a x axi unbound bound
-porting-apart bytes channels Next text axi reads bound a x apart (inr (t, reads', inr (m, bound', rest))) =
-    apart (subst (λ (k : Axi). Next k a x) (one-bound t text channels (text-same _ t text reads' reads) m axi bound' bound) rest)
-
--- which is one
-pub one-port : (bytes : List ℕ) (channels : List Channel) (t u : AxiText) (m n : Axi) → ReadsAxi bytes (Ok t) → ReadsAxi bytes (Ok u)
-    → IsBound t channels m → IsBound u channels n → m ≡ n
-one-port bytes channels t u m n reads reads' bound bound' = one-bound t u channels (text-same _ t u reads reads') m n bound bound'
 
 -- ---- the rules
 none-broken : (t : Trace) (axi : Axi) (r : Reason) → faults axi t ≡ []

@@ -2,7 +2,7 @@
 use Rattle.std.proofs.Common.{◌≡◌, ℕ, Bool, true, false, List, [], ◌∷◌, Option, None, Some, if◌then◌else◌, refl, sym, ap, ◌∙◌, codes, bytes_eq, option_map}
 use Rattle.vidi_commands.proofs.vidi_bits_lemmas.Lists.{some_same}
 use Rattle.vidi_commands.specs.vidi_lines.Number.{number_of}
-use Rattle.vidi_commands.specs.Command.{Command, Dump, Check, Run, Record, Replay, Serve, Compare, Salvage, Migrate, Bursts, Move, Wrap, Sample, IsGiven, side_word}
+use Rattle.vidi_commands.specs.Command.{Command, Dump, Check, Run, Record, Replay, Compare, Salvage, Migrate, Bursts, Move, Wrap, Sample, IsGiven, side_word}
 use Rattle.vidi_commands.specs.trace_commands.Moves.{Wanted}
 
 -- this command, if its name is given, else others
@@ -23,8 +23,6 @@ given (name ∷ a ∷ b ∷ []) = named name (codes "check") (Some (Check a b)) 
 given (name ∷ a ∷ b ∷ c ∷ []) = named name (codes "run") (Some (Run a b c)) (named name (codes "wrap") (Some (Wrap a b c)) None)
 given (name ∷ a ∷ b ∷ c ∷ d ∷ e ∷ []) = named name (codes "record") (Some (Record a b c d e))
     (named name (codes "replay") (option_map (λ (n : ℕ). Replay a b c n e) (number_of d)) None)
-given (name ∷ d ∷ m ∷ a ∷ s ∷ n ∷ t ∷ []) =
-    named name (codes "serve") (option_map (λ (k : ℕ). Serve d m a s k t) (number_of n)) None
 given (name ∷ t ∷ c ∷ i ∷ s ∷ d ∷ j ∷ o ∷ []) = named name (codes "move")
     (option_map (λ (w : Wanted). Move t w o) (wished c (number_of i) (bytes_eq s (codes "after")) d (number_of j))) None
 given words = None
@@ -41,8 +39,6 @@ is_given words (Check d t) g = ap given g
 is_given words (Run d m s) g = ap given g
 is_given words (Record d m s p t) (g, _, _, _, _) = ap given g
 is_given words (Replay d m t n o) (word, g, is, _, _, _) = ap given g ∙ ap (λ (k : Option ℕ). option_map (λ (n : ℕ). Replay d m t n o) k) is.0
-is_given words (Serve d m p s n t) (word, g, is, _, _, _, _) =
-    ap given g ∙ ap (λ (k : Option ℕ). option_map (λ (n : ℕ). Serve d m p s n t) k) is.0
 is_given words (Compare t u) g = ap given g
 is_given words (Salvage t o) (g, _) = ap given g
 is_given words (Migrate t o) (g, _) = ap given g

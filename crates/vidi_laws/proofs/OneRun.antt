@@ -22,7 +22,7 @@ use Rattle.vidi_laws.specs.OneRun.{OneRecording, OnePrintedRun, OneReplayOfFiles
 use Rattle.vidi_laws.proofs.SameReplay.{fits, same-rows}
 
 -- an accepted design settles in one way, and its map is one of it
-pub device-ready : (design m : List ℕ) (v : Device) → IsDevice design m v → IsReady v.design v.map
+device-ready : (design m : List ℕ) (v : Device) → IsDevice design m v → IsReady v.design v.map
 device-ready design m v is = record {
   lawful = is.accepted.1.lawful;
   one_map = has_one_map v.design is.accepted.1.lawful v.order.drivers is.ordered;

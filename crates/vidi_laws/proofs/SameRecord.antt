@@ -5,7 +5,6 @@ use Rattle.vidi_commands.specs.trace_model.declared.row.Row.{Row}
 use Rattle.vidi_commands.specs.trace_model.Recording.{trace_of}
 use Rattle.vidi_commands.specs.trace_code.Encoding.{encode}
 use Rattle.vidi_commands.specs.chan_map.declared.pins.Map.{Map}
-use Rattle.net_design.specs.declared.design.Design.{Design}
 use Rattle.vidi_commands.specs.room_ledger.Gates.{Plan}
 use Rattle.vidi_commands.specs.vidi_bits.Findings.{is_nil}
 use Rattle.vidi_commands.proofs.env_script_lemmas.Lasting.{script-lasts}
@@ -18,8 +17,7 @@ use Rattle.vidi_commands.specs.env_script.Plan.{allowance_at}
 use Rattle.vidi_commands.specs.env_script.Reasons.{read_lines}
 use Rattle.vidi_commands.specs.env_script.Stalls.{ReadsStalls}
 use Rattle.vidi_commands.specs.env_script.ScriptOffer.{script_offer}
-use Rattle.vidi_commands.specs.env_script.Offer.{Offer}
-use Rattle.vidi_commands.specs.env_script.Offered.{offers_after, AreLasting}
+use Rattle.vidi_commands.specs.env_script.Offered.{offers_after}
 use Rattle.vidi_commands.specs.env_script.OneReading.{SamePlan}
 use Rattle.vidi_commands.specs.vidi_io.Shelf.{Files, holding}
 use Rattle.vidi_commands.specs.vidi_recorder.Course.{Course, course, gates_behind, plan_of, turns_of, IsTheRunOf}
@@ -27,19 +25,17 @@ use Rattle.vidi_commands.specs.report_text.declared.reason.Word.TheVariants as w
 use Rattle.vidi_commands.specs.report_text.declared.reason.Reason.TheVariants.{StallLine, TooSmall}
 use Rattle.vidi_commands.specs.report_text.Reason.{reason_line}
 use Rattle.vidi_commands.specs.vidi_bench.declared.bench.Bench.{Bench}
-use Rattle.vidi_commands.specs.vidi_bench.declared.device.Device.{Device}
 use Rattle.vidi_commands.specs.vidi_bench.vidi_answer.declared.status.Status.{Status}
 use Rattle.vidi_commands.specs.vidi_bench.vidi_answer.declared.status.Status.TheVariants.{Done, Refused, Unstable}
 use Rattle.vidi_commands.specs.vidi_bench.Steps.{IsRefusal}
 use Rattle.vidi_commands.specs.vidi_bench.Reading.{Reading}
 use Rattle.vidi_commands.specs.vidi_bench.Benches.{RefusedTexts, IsBench}
 use Rattle.vidi_commands.specs.vidi_bench.Design.{text_limit}
-use Rattle.vidi_commands.specs.run_commands.Records.{least_for, IsNoPlan, IsShort, RefusedPlan, RefusedPlanned, RefusedRoom, RefusedStore}
+use Rattle.vidi_commands.specs.run_commands.Records.{least_for, IsNoPlan, IsTooSmall, RefusedPlan, RefusedPlanned, RefusedStore}
 use Rattle.vidi_commands.specs.run_commands.Records.{IsUnrecorded, IsPlanned, IsRecorded, RecordsRun, Records, course_of}
 use Rattle.vidi_commands.specs.run_commands.Said.{recorded_line, unstable_line}
 use Rattle.vidi_laws.proofs.OneEnding.{Same, Meet, Apart, One, OneBy, one-said, one-read, one-reading-by, reading-apart, step-meets}
 use Rattle.vidi_laws.proofs.OneCheck.{Alike, alike}
-use Rattle.vidi_laws.proofs.SameDevice.{SameDevice}
 use Rattle.vidi_laws.proofs.SameRun.{the-run_alike}
 use Rattle.vidi_laws.proofs.SameBench.{BenchLaws, SameBench, one-texts, texts-apart, one-refused_texts, texts-refused, same-bench}
 
@@ -49,8 +45,10 @@ same-line l k e = cc
 no-line : (l : ℕ) → stall_errors.Line l ≡ stall_errors.Memory → ⊥
 no-line l e = cc
 
-short-once : (needed : ℕ) (p q : Stalls) → SamePlan p q → Meet Same (IsShort needed p) (IsShort needed q)
-short-once needed p q same a b x y (small, s) (small', s') =
+small-once : (channels : List Channel) (script : Script) (p q : Stalls) → SamePlan p q
+    → Meet Same (IsTooSmall channels script p) (IsTooSmall channels script q)
+small-once channels script p q same a b x y (small, s) (small', s') =
+    let needed = least_for channels script in
     one-said (Refused words.Stalls (TooSmall needed p.capacity)) (reason_line words.Stalls (TooSmall needed p.capacity)) a b x y s
     (subst (λ (n : ℕ). IsRefusal words.Stalls (TooSmall needed n) b y) (sym same.0) s')
 
@@ -67,53 +65,8 @@ plan-path p q times same =
     let drains = sym same.1 in
     λ i. record { capacity = capacity i; allowance = allowance_at (drains i); resets = not (is_nil times) }
 
-pub replanned : (P : Course → Type 0) (d : Design) (m : Map) (offer : List Row → ℕ → Offer) (p q : Stalls) (times : List ℕ) (cycles : ℕ)
-    → SamePlan p q → P (course d m offer q times cycles) → P (course d m offer p times cycles)
-replanned P d m offer p q times cycles same = subst (λ (k : Plan). P (record {
-  design = d;
-  bound = m;
-  offers = offers_after m.channels offer;
-  plan = k;
-  times = times;
-  cycles = cycles;
-})) (plan-path p q times same)
-
 abbrev pub LeftAlike : Status → Status → List ℕ → List ℕ → Option Files → Option Files → Type 0
 LeftAlike a b x y left right = Alike a b x y × (left ≡ right)
-
--- ---- the runs of two devices of the same texts, under one plan and what one environment offers
-module _ (v w : Device) (same : SameDevice v w) (offer : List Row → ℕ → Offer) (p : Stalls) (times : List ℕ) (cycles : ℕ)
-    (lasting : AreLasting v.map.channels offer) where
-  abbrev ours : Course
-  ours = course v.design v.map offer p times cycles
-
-  -- the other design, with this map
-  abbrev theirs : Course
-  theirs = course w.design v.map offer p times cycles
-
-  pub course-once : (rows others : List Row) (stop end : Option ℕ) → IsTheRunOf ours rows stop → IsTheRunOf theirs others end
-      → (others ≡ rows) × (end ≡ stop)
-  course-once rows others stop end run run' =
-      let m = v.map in
-      let there : IsTheRunOf ours others end = record {
-        past = run'.past;
-        here = run'.here;
-        rows_are = run'.rows_are;
-        run = the-run_alike v.design w.design same.ready.lawful same.designs m (offers_after m.channels offer)
-            (gates_behind m.channels (plan_of p times)) (turns_of ours) cycles run'.past run'.here end run'.run;
-      } in
-      (one-recorded v.design m offer p times cycles same.ready lasting).1.1 others rows end stop there run
-
-  pub courses-once : (trace : List ℕ) (files : Files) (P Q : Bool → Type 0) (s t : Status) (x y : List ℕ) (left right : Option Files)
-      → RecordsRun ours trace (Some files) P s x left → RecordsRun theirs trace (Some files) Q t y right → LeftAlike s t x y left right
-  courses-once trace files P Q s t x y left right (rows, stop, (run, leaves, _), said) (others, end, (run', leaves', _), said') =
-      let channels = v.map.channels in
-      let one = course-once rows others stop end run run' in
-      let told = subst (λ (o : Option ℕ). IsRecorded channels rows o t y) one.1
-      (subst (λ (rs : List Row). IsRecorded channels rs end t y) one.0 said') in (
-        alike s t x y (recorded-once channels rows stop s t x y said told),
-        leaves ∙ ap (λ (rs : List Row). holding (Some files) trace (encode (trace_of channels rs))) (sym one.0) ∙ sym leaves',
-      )
 
 module _ (laws : BenchLaws) where
   -- ---- what ends the command before anything is recorded
@@ -137,21 +90,11 @@ module _ (laws : BenchLaws) where
       → SamePlan p q
   one-plan_of bytes p q x y = laws.plan (read_lines bytes) (Ok p) (Ok q) x y
 
-  -- where so many bytes are needed
-  pub refused-room : (stalls : List ℕ) (needed : ℕ) → One (RefusedRoom stalls needed)
-  refused-room stalls needed = step-meets Same (IsNoPlan stalls) (IsNoPlan stalls) (λ (p : Stalls). ReadsStalls (read_lines stalls) (Ok p))
-      (λ (p : Stalls). ReadsStalls (read_lines stalls) (Ok p)) (IsShort needed) (IsShort needed) (no_plan stalls) (plan-apart stalls)
-      (plan-apart stalls) (λ p q is is'. short-once needed p q (one-plan_of stalls p q is is'))
-
-  pub room-apart : (stalls : List ℕ) (needed : ℕ) (plan : Stalls) → ReadsStalls (read_lines stalls) (Ok plan) → needed ≤ plan.capacity
-      → (a : Status) (x : List ℕ) → RefusedRoom stalls needed a x → ⊥
-  room-apart stalls needed plan planned holds a x (inl bad) = plan-apart stalls a x plan bad planned
-  room-apart stalls needed plan planned holds a x (inr (p, reads, (small, said))) =
-      let capacity = (one-plan_of stalls p plan reads planned).0 in
-      omega (arith, small, holds, capacity)
-
   refused-plan : (stalls : List ℕ) (b : Bench) → One (RefusedPlan stalls b)
-  refused-plan stalls b = refused-room stalls (least_for b.device.map.channels b.script)
+  refused-plan stalls b = step-meets Same (IsNoPlan stalls) (IsNoPlan stalls) (λ (p : Stalls). ReadsStalls (read_lines stalls) (Ok p))
+      (λ (p : Stalls). ReadsStalls (read_lines stalls) (Ok p)) (IsTooSmall b.device.map.channels b.script)
+      (IsTooSmall b.device.map.channels b.script) (no_plan stalls) (plan-apart stalls) (plan-apart stalls)
+      (λ p q is is'. small-once b.device.map.channels b.script p q (one-plan_of stalls p q is is'))
 
   -- a bench counts by its map and its script alone
   other-plan : (stalls : List ℕ) (b c : Bench) → SameBench b c → (a : Status) (x : List ℕ) → RefusedPlan stalls c a x → RefusedPlan stalls b a x
@@ -180,8 +123,14 @@ module _ (laws : BenchLaws) where
       (x : List ℕ) where
     pub refused-apart : RefusedPlanned design m script stalls a x → ⊥
     refused-apart (inl refused) = texts-refused laws design m script b bench a x refused
-    refused-apart (inr (c, other, refused)) = room-apart stalls (least_for b.device.map.channels b.script) plan planned holds a x
-        (other-plan stalls b c (same-bench laws design m script b c bench other) a x refused)
+    refused-apart (inr (c, other, inl bad)) = plan-apart stalls a x plan bad planned
+    refused-apart (inr (c, other, inr (p, reads, (small, said)))) =
+        let same = same-bench laws design m script c b other bench in
+        let plans = one-plan_of stalls p plan reads planned in
+        let there = subst (λ (k : Map). least_for k.channels b.script ≤ plan.capacity) (sym same.device.map) holds in
+        let least = subst (λ (k : Script). least_for c.device.map.channels k ≤ plan.capacity) (sym same.script) there in
+        let capacity = plans.0 in
+        omega (arith, small, least, capacity)
 
   module _ (design m script stalls : List ℕ) (files : Files) (b : Bench) (plan : Stalls)
       (is : IsPlanned design m script stalls (Some files) b plan) (a : Status) (x : List ℕ) where
@@ -222,23 +171,46 @@ module _ (laws : BenchLaws) where
   pub course-beside : (P : Course → Type 0) (b c : Bench) (p q : Stalls) → SameBench b c → SamePlan p q → P (course_of c q)
       → P (beside b p c)
   course-beside P b c p q same plans r =
+      let plan = plan-path p q b.script.resets plans in
       let d = c.device.design in
       let map-there = subst (λ (k : Map). P (course d k (script_offer c.script) q c.script.resets c.script.cycles)) (sym same.device.map) r in
       let script-there = subst (λ (k : Script). P (course d b.device.map (script_offer k) q k.resets k.cycles)) (sym same.script) map-there in
-      replanned P d b.device.map (script_offer b.script) p q b.script.resets b.script.cycles plans script-there
+      subst (λ (k : Plan). P (record {
+        design = c.device.design;
+        bound = b.device.map;
+        offers = offers_after b.device.map.channels (script_offer b.script);
+        plan = k;
+        times = b.script.resets;
+        cycles = b.script.cycles;
+      })) plan script-there
 
   pub run-once : (b c : Bench) (p : Stalls) → SameBench b c → FitsChannels b.device.map.channels b.script → (rows others : List Row)
       (stop end : Option ℕ) → IsTheRunOf (course_of b p) rows stop → IsTheRunOf (beside b p c) others end
       → (others ≡ rows) × (end ≡ stop)
-  run-once b c p same fits = course-once b.device c.device same.device (script_offer b.script) p b.script.resets b.script.cycles
-      (script-lasts b.device.map.channels b.script fits)
+  run-once b c p same fits rows others stop end run run' =
+      let m = b.device.map in
+      let offer = script_offer b.script in
+      let theirs : IsTheRunOf (course_of b p) others end = record {
+        past = run'.past;
+        here = run'.here;
+        rows_are = run'.rows_are;
+        run = the-run_alike b.device.design c.device.design same.device.ready.lawful same.device.designs m (offers_after m.channels offer)
+            (gates_behind m.channels (plan_of p b.script.resets)) (turns_of (course_of b p)) b.script.cycles run'.past run'.here end run'.run;
+      } in
+      (one-recorded b.device.design m offer p b.script.resets b.script.cycles same.device.ready (script-lasts m.channels b.script fits)).1.1
+      others rows end stop theirs run
 
-  runs-once : (b c : Bench) (p : Stalls) → SameBench b c → FitsChannels b.device.map.channels b.script → (trace : List ℕ) (files : Files)
-      (P Q : Bool → Type 0) (s t : Status) (x y : List ℕ) (left right : Option Files)
-      → RecordsRun (course_of b p) trace (Some files) P s x left → RecordsRun (beside b p c) trace (Some files) Q t y right
-      → LeftAlike s t x y left right
-  runs-once b c p same fits = courses-once b.device c.device same.device (script_offer b.script) p b.script.resets b.script.cycles
-      (script-lasts b.device.map.channels b.script fits)
+  runs-once : (b c : Bench) (p : Stalls) → SameBench b c → FitsChannels b.device.map.channels b.script → (trace : List ℕ) (files : Files) (P Q : Bool → Type 0) (s t : Status)
+      (x y : List ℕ) (left right : Option Files) → RecordsRun (course_of b p) trace (Some files) P s x left
+      → RecordsRun (beside b p c) trace (Some files) Q t y right → LeftAlike s t x y left right
+  runs-once b c p same fits trace files P Q s t x y left right (rows, stop, (run, leaves, _), said) (others, end, (run', leaves', _), said') =
+      let channels = b.device.map.channels in
+      let one = run-once b c p same fits rows others stop end run run' in
+      let told = subst (λ (o : Option ℕ). IsRecorded channels rows o t y) one.1
+      (subst (λ (rs : List Row). IsRecorded channels rs end t y) one.0 said') in (
+        alike s t x y (recorded-once channels rows stop s t x y said told),
+        leaves ∙ ap (λ (rs : List Row). holding (Some files) trace (encode (trace_of channels rs))) (sym one.0) ∙ sym leaves',
+      )
 
   pub one_record : (design m script stalls trace : List ℕ) (files : Files) (P Q : Bool → Type 0) (a b : Status) (x y : List ℕ)
       (left right : Option Files) → Records design m script stalls trace (Some files) (λ _. ⊥) P a x left

@@ -3,4 +3,3 @@ pub mod Headline
 pub mod Migrated
 pub mod OneAnswer
 pub mod OneRun
-pub mod Served

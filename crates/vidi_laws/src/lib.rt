@@ -1,12 +1,11 @@
 //! Laws of what a call of `vidi` owes: it has one answer, its runs and its replay exist and are one, the trace of a recording keeps its
 //! run, a replay keeps the order of its trace, and a wrapped design is read as it was made.
 //!
-//! `specs/OneAnswer`, `specs/OneRun`, `specs/Headline`, `specs/Served` and `specs/Alike` have the statements.
+//! `specs/OneAnswer`, `specs/OneRun`, `specs/Headline` and `specs/Alike` have the statements.
 #![tactic(auto)]
 
 mod laws;
 mod runs;
-mod served;
 
 pub use laws::{
     built_alike, drained_recording_is_the_run, one_answer, recorded_run_is_kept,
@@ -17,8 +16,4 @@ pub use runs::{
     one_replay_of_files, printed_run_keeps_contents, recorded_trace_is_replayable,
     recorded_trace_is_short, recording_hides_no_gate, salvaged_trace_is_replayable,
     wide_plan_drains,
-};
-pub use served::{
-    broken_serving_is_salvaged, one_serving, served_rows_carry_the_memory, served_run_is_kept,
-    served_trace_is_replayable, serving_hides_no_gate,
 };

@@ -4,16 +4,15 @@ use Rattle.wrap_command.specs.vidi_io.Shelf.{HasStarted}
 use Rattle.wrap_command.specs.vidi_io.Writing.{IsKept}
 use Rattle.vidi_commands.specs.Answer.{Earns, Stops}
 use Rattle.sample_command.specs.run_commands.Checks.{Checks}
-use Rattle.vidi_commands.specs.Command.{Bursts, Check, Compare, Dump, IsGiven, Migrate, Move, Record, Replay, Run, Salvage, Sample, Serve, Wrap}
+use Rattle.vidi_commands.specs.Command.{Bursts, Check, Compare, Dump, IsGiven, Migrate, Move, Record, Replay, Run, Salvage, Sample, Wrap}
 use Rattle.sample_command.specs.run_commands.Records.{Records, StopsRecording}
 use Rattle.sample_command.specs.replay_command.Replays.{Replays, StopsReplaying}
 use Rattle.sample_command.specs.run_commands.Runs.{Runs}
 use Rattle.sample_command.specs.Samples.{Samples}
-use Rattle.serve_command.specs.trace_commands.Bursts as grouping
-use Rattle.serve_command.specs.trace_commands.Moves.{wanted, MovesEnd, StopsMoving}
-use Rattle.serve_command.specs.trace_commands.Migrating.{Migrates, StopsMigrating}
-use Rattle.serve_command.specs.trace_commands.Traces.{Compares, Dumps, Saves, StopsSaving}
-use Rattle.serve_command.specs.Serves.{Serves, StopsServing}
+use Rattle.trace_commands.specs.Bursts as grouping
+use Rattle.trace_commands.specs.Moves.{wanted, MovesEnd, StopsMoving}
+use Rattle.trace_commands.specs.Migrating.{Migrates, StopsMigrating}
+use Rattle.trace_commands.specs.Traces.{Compares, Dumps, Saves, StopsSaving}
 use Rattle.wrap_command.specs.Wraps.{StopsWrapping, Wraps}
 use Rattle.wrap_command.proofs.vidi_bench_lemmas.Chain.{owed, owed-as}
 use Rattle.vidi_commands.proofs.top.answer_to.Goals as goal
@@ -117,26 +116,6 @@ returns-in-Some-Replay-clause-owed g c =
     owed-as (Replays design map trace cycles out files F P) (Earns words files F P) (StopsReplaying design map trace cycles out files P) (Stops words files P)
     (Rose (S.write_faults c.args.shelf.now) (S.write_faults c.replay.new.shelf)) (IsKept files P) left c.replay.result
     (λ a x is. inr (inr (Replay design map trace cycles out, given, is))) (λ cut. (Replay design map trace cycles out, given, cut)) c.replay.ensures.owed
-
-pub returns-in-Some-Serve-clause-owed : goal.returns-in-Some-Serve-clause-owed
-returns-in-Some-Serve-clause-owed g c =
-    let S = g.S.Shelf in
-    let words = c.args.words.now in
-    let files = S.files c.args.shelf.now in
-    let left = S.files c.serve.new.shelf in
-    let F = λ (name : List ℕ). Rose (S.read_faults c.args.shelf.now name) (S.read_faults c.serve.new.shelf name) in
-    let P = HasStarted (S.starts c.args.shelf.now) (S.starts c.serve.new.shelf) in
-    let design = c.in-Some-Serve.design.now in
-    let map = c.in-Some-Serve.map.now in
-    let axi = c.in-Some-Serve.axi.now in
-    let stalls = c.in-Some-Serve.stalls.now in
-    let cycles = c.in-Some-Serve.cycles in
-    let trace = c.in-Some-Serve.trace.now in
-    let given : IsGiven words (Serve design map axi stalls cycles trace) = rw c.in-Some-Serve.field-0-is at c.in-Some-Serve.ensures in
-    owed-as (Serves design map axi stalls cycles trace files F P) (Earns words files F P) (StopsServing design map axi stalls cycles trace files P)
-    (Stops words files P) (Rose (S.write_faults c.args.shelf.now) (S.write_faults c.serve.new.shelf)) (IsKept files P) left c.serve.result
-    (λ a x is. inr (inr (Serve design map axi stalls cycles trace, given, is)))
-    (λ cut. (Serve design map axi stalls cycles trace, given, cut)) c.serve.ensures.owed
 
 pub returns-in-Some-Salvage-clause-owed : goal.returns-in-Some-Salvage-clause-owed
 returns-in-Some-Salvage-clause-owed g c =

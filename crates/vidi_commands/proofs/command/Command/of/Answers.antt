@@ -1,7 +1,7 @@
 use Rattle.std.proofs.Common.{◌≡◌, List, [], ◌∷◌, ℕ, sym, ◌∙◌, subst}
 use Rattle.std.specs.Prelude.{MatchOption}
 use Rattle.vidi_commands.specs.Command.{Command, IsGiven, plain}
-use Rattle.vidi_commands.proofs.WordLists.{two, three, six, seven, eight}
+use Rattle.vidi_commands.proofs.WordLists.{two, three, six, eight}
 use Rattle.vidi_commands.proofs.command.Command.of.Goals as goal
 
 pub returns-in-len2 : goal.returns-in-len2
@@ -42,28 +42,6 @@ returns-in-len6 c =
     parts ∙ sym shape ∙ c.as_slice.ensures in
     subst (λ (ws : List (List ℕ)). MatchOption c.of_five.result ((k : Command) → ¬ IsGiven ws k) (λ k. IsGiven ws (plain k))) whole
     c.of_five.ensures
-
-pub returns-in-len7 : goal.returns-in-len7
-returns-in-len7 c =
-    let shape = seven c.as_slice.result.now c.name-item-then-this-lt8.result c.design-item-then-this-lt8.result
-    c.map-item-then-this-lt8.result c.axi-item.result c.stalls-item-then-this-lt8.result c.cycles-item.result
-    c.trace-item-then-this-lt8.result c.in-len7.len_at_least c.in-len7.len_below c.name-item-then-this-lt8.is
-    c.design-item-then-this-lt8.is c.map-item-then-this-lt8.is c.axi-item.is c.stalls-item-then-this-lt8.is c.cycles-item.is
-    c.trace-item-then-this-lt8.is in
-    let parts : c.as_str-in-len7.result.now ∷ c.as_str-in-len7-2.result.now ∷ c.as_str-in-len7-3.result.now
-    ∷ c.as_str-in-len7-4.result.now ∷ c.as_str-in-len7-5.result.now ∷ c.as_str-in-len7-6.result.now
-    ∷ c.as_str-in-len7-7.result.now ∷ []
-    ≡ c.name-item-then-this-lt8.result ∷ c.design-item-then-this-lt8.result ∷ c.map-item-then-this-lt8.result ∷ c.axi-item.result
-    ∷ c.stalls-item-then-this-lt8.result ∷ c.cycles-item.result ∷ c.trace-item-then-this-lt8.result ∷ [] =
-    λ i. c.as_str-in-len7.ensures i ∷ c.as_str-in-len7-2.ensures i ∷ c.as_str-in-len7-3.ensures i
-    ∷ c.as_str-in-len7-4.ensures i ∷ c.as_str-in-len7-5.ensures i ∷ c.as_str-in-len7-6.ensures i
-    ∷ c.as_str-in-len7-7.ensures i ∷ [] in
-    let whole : c.as_str-in-len7.result.now ∷ c.as_str-in-len7-2.result.now ∷ c.as_str-in-len7-3.result.now
-    ∷ c.as_str-in-len7-4.result.now ∷ c.as_str-in-len7-5.result.now ∷ c.as_str-in-len7-6.result.now
-    ∷ c.as_str-in-len7-7.result.now ∷ [] ≡ c.args.words.now =
-    parts ∙ sym shape ∙ c.as_slice.ensures in
-    subst (λ (ws : List (List ℕ)). MatchOption c.of_six.result ((k : Command) → ¬ IsGiven ws k) (λ k. IsGiven ws (plain k))) whole
-    c.of_six.ensures
 
 pub returns-in-len8 : goal.returns-in-len8
 returns-in-len8 c =
